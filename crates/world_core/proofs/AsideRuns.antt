@@ -1,9 +1,10 @@
 -- The tasks that a run of a script set aside stand for what was taken away with them.
-use Rattle.std.proofs.Common.{◌≡◌, ◌⊎◌, ◌<◌, ◌≤◌, ◌+◌, ◌++◌, ℕ, zero, suc, Bool, true, false, if◌then◌else◌, List, [], ◌∷◌, Some, length, refl, sym, ap, ◌∙◌, subst, inl, inr, arith}
+use Rattle.std.proofs.Common.{◌≡◌, ◌⊎◌, ◌<◌, ◌≤◌, ◌+◌, ◌++◌, ℕ, zero, suc, Bool, true, false, if◌then◌else◌, List, [], ◌∷◌, Option, Some, length, refl, sym, ap, ◌∙◌, subst, inl, inr, arith}
 use Rattle.std.specs.Prelude.{slice_get}
 use Rattle.std.specs.Option.{option_map}
 use Rattle.std.proofs.lemmas.Bool.{cases_eq, true≢false}
 use Rattle.std.proofs.lemmas.Option.{slice_get-map}
+use Rattle.el_settings.specs.Asked.{is_source}
 use Rattle.flow_model.specs.Call.{Call}
 use Rattle.flow_model.specs.Item.{Item}
 use Rattle.flow_model.specs.Moment.{Behavior, Moment, behavior_at}
@@ -14,7 +15,7 @@ use Rattle.gst_value.proofs.Places.{get_last, map_got}
 use Rattle.net_groups.proofs.Lists.{append_back, append_first}
 use Rattle.edit_acts.proofs.Gone.{still_there, was_there}
 use Rattle.edit_core.specs.Tasks.{number_of_head}
-use Rattle.graph_core.specs.Elements.{Made, limit}
+use Rattle.graph_core.specs.Elements.{Made, has, limit}
 use Rattle.graph_core.specs.GraphPlan.{owner_of}
 use Rattle.graph_edits.specs.Edited.{Edited, is_there, without_element}
 use Rattle.graph_parts.specs.Pads.{is_pad}
@@ -138,6 +139,8 @@ module _ {S E I O L : Type 0} {s : sources.Ghosts S} {e : elements.Ghosts E} {i 
       counted = λ place task at. crossed_on m m' task (w.counted place task at) (λ wire is. crossed wire.number (w.gone wire.number (record { place = place; task = task; at = at; wire = wire; is = is; number = refl })));
       gone = λ p has. on p (w.gone p has);
       each = λ p gone. w.each p (back p gone);
+      elements = λ a low gone none.
+          w.elements a (subst (λ (ms : List Made). a < length ms) made low) (sym (there a) ∙ gone) (ap (λ (ms : List Made). has is_source ms a) (sym made) ∙ none);
       parts = λ part is.
           let z = w.parts part is in (
             subst (λ (ms : List Made). part.number < length ms) (sym made) z.0,
@@ -155,7 +158,8 @@ module _ {S E I O L : Type 0} {s : sources.Ghosts S} {e : elements.Ghosts E} {i 
 -- an element is taken away with its task, and has no other one there
 module _ {S E I O L : Type 0} {s : sources.Ghosts S} {e : elements.Ghosts E} {i : inlets.Ghosts I L O} {o : outlets.Ghosts O L} (g : Edited) (m m' : Moment) (n : ℕ) (there : is_there g n ≡ true) (within : n < length g.made)
     (few : length g.made ≤ limit) (fits : (p : ℕ) → m.plan.owner p ≡ owner_in g.made p) (owner : m'.plan.owner ≡ m.plan.owner) (history : m'.history ≡ m.history)
-    (took : (a : ℕ) → a < length g.made → is_there (without_element n g) a ≡ false → m'.took a ≡ m.took a) (task : Task S E I O L s e i o) (ties : Ties task m) (has : HasElement (frame_of task) n) (only : IsOnly (frame_of task) n) where
+    (took : (a : ℕ) → a < length g.made → is_there (without_element n g) a ≡ false → m'.took a ≡ m.took a) (task : Task S E I O L s e i o) (ties : Ties task m) (own : HasElement (frame_of task) n) (only : IsOnly (frame_of task) n)
+    (sources_are : (file : Option (Option (List ℕ))) (wire : Wire) → head_frame o task.head ≡ by_source n file wire → has is_source g.made n ≡ true) where
   gone_on : (a : ℕ) → is_there g a ≡ false → is_there (without_element n g) a ≡ false
   gone_on a gone = by (is_there (without_element n g) a) refl
     where
@@ -188,7 +192,7 @@ module _ {S E I O L : Type 0} {s : sources.Ghosts S} {e : elements.Ghosts E} {i 
   old_pad p gone = (gone.0, ap (λ (f : ℕ → ℕ). is_there (without_element n g) (f p)) owner ∙ gone_on (m.plan.owner p) gone.1)
 
   pub aside_more : (removed : List (Task S E I O L s e i o)) → AreSetAside g m removed → AreSetAside (without_element n g) m' (removed ++ task ∷ [])
-  aside_more removed w = record { counted = counted; gone = gone; each = each; parts = parts }
+  aside_more removed w = record { counted = counted; gone = gone; each = each; elements = elements_of; parts = parts }
     where
       one_behind : (j : ℕ) (t : Task S E I O L s e i o) → slice_get (task ∷ []) j ≡ Some t → task ≡ t
       one_behind zero t at = some_same at
@@ -214,12 +218,31 @@ module _ {S E I O L : Type 0} {s : sources.Ghosts S} {e : elements.Ghosts E} {i 
       each p gone = by (gone_or (m.plan.owner p) (ap (λ (f : ℕ → ℕ). is_there (without_element n g) (f p)) (sym owner) ∙ gone.1))
         where
           by : (m.plan.owner p ≡ n) ⊎ (is_there g (m.plan.owner p) ≡ false) → HasPad (removed ++ task ∷ []) p
-          by (inl own) =
-              let z = element_wire task m ties n p has own in
+          by (inl mine) =
+              let z = element_wire task m ties n p own mine in
               record { place = length removed; task = task; at = get_last removed task; wire = z.0; is = z.1; number = z.2 }
           by (inr was) =
               let old = w.each p (gone.0, was) in
               record { place = old.place; task = old.task; at = append_first removed (task ∷ []) old.place old.task old.at; wire = old.wire; is = old.is; number = old.number }
+
+      elements_of : (a : ℕ) → a < length g.made → is_there (without_element n g) a ≡ false → has is_source g.made a ≡ false → (part : Part E O e) × IsPartOf (removed ++ task ∷ []) part × (part.number ≡ a)
+      elements_of a low away none = by (gone_or a away)
+        where
+          mine : HasElement (frame_of task) n → a ≡ n → (part : Part E O e) × IsPartOf (removed ++ task ∷ []) part × (part.number ≡ a)
+          mine (HasElement.part place one is number) same =
+              let part = map_got (part_frame o) task.parts.items place one is in (
+                part.0,
+                record { place = length removed; task = task; at = get_last removed task; within = place; is = part.1 },
+                sym (ap (λ (f : PartFrame). f.number) part.2) ∙ number ∙ sym same,
+              )
+          mine (HasElement.source file wire is) same = absurd (true≢false (sym (sources_are file wire is) ∙ ap (has is_source g.made) (sym same) ∙ none))
+
+          by : (a ≡ n) ⊎ (is_there g a ≡ false) → (part : Part E O e) × IsPartOf (removed ++ task ∷ []) part × (part.number ≡ a)
+          by (inl same) = mine own same
+          by (inr was) =
+              let old = w.elements a low was none in
+              let is = old.1 in
+              (old.0, record { place = is.place; task = is.task; at = append_first removed (task ∷ []) is.place is.task is.at; within = is.within; is = is.is }, old.2)
 
       parts : (part : Part E O e) → IsPartOf (removed ++ task ∷ []) part
           → (part.number < length (without_element n g).made) × (is_there (without_element n g) part.number ≡ false) × ((behavior : Behavior) × e.stands part.element behavior (m'.took part.number))
@@ -235,7 +258,7 @@ module _ {S E I O L : Type 0} {s : sources.Ghosts S} {e : elements.Ghosts E} {i 
               let z = w.parts part (record { place = is.place; task = is.task; at = old.1; within = is.within; is = is.is }) in
               stands_on z.2.0 z.0 (gone_on part.number z.1) z.2.1
           by (inr new) =
-              let own = subst (λ (x : Task S E I O L s e i o). slice_get x.parts.items is.within ≡ Some part) (sym (one_behind new.0 is.task new.2)) is.is in
-              let z = part_stands task m ties is.within part own in
+              let here = subst (λ (x : Task S E I O L s e i o). slice_get x.parts.items is.within ≡ Some part) (sym (one_behind new.0 is.task new.2)) is.is in
+              let z = part_stands task m ties is.within part here in
               let number : part.number ≡ n = only part.number z.0 in
               stands_on (behavior_at m part.number) (subst (λ (k : ℕ). k < length g.made) (sym number) within) (ap (is_there (without_element n g)) number ∙ n_gone) z.1

@@ -26,7 +26,7 @@ use Rattle.text_words.specs.Words.{words_of}
 use Rattle.text_words.specs.declared.word.Separator.TheVariants.{Space}
 use Rattle.world_core.specs.Headline.{EndsBy}
 use Rattle.world_core.specs.Scripts.{IsScriptEnd, ScriptEnded}
-use Rattle.world_core.specs.World.{IsWorldEnd, RunUnopened}
+use Rattle.world_core.specs.World.{FilesHold, IsWorldEnd, RunUnopened}
 use Rattle.world_core.specs.declared.ended.WorldEnd.{WorldEnd}
 
 -- ---- what they name
@@ -128,6 +128,6 @@ pub ends_by_script : (graph : Graph) (commands : List Command) (before after : S
 ends_by_script graph [] before after end some named ended = absurd (some refl)
 ends_by_script graph (c ∷ cs) before after end some named ended = by ended
   where
-    by : RunUnopened graph before after end ⊎ ScriptEnded graph (c ∷ cs) before end → EndsBy graph (c ∷ cs) before after end
+    by : RunUnopened graph before after end ⊎ ScriptEnded graph (c ∷ cs) before (FilesHold graph after) end → EndsBy graph (c ∷ cs) before after end
     by (inl unopened) = inl unopened
     by (inr ran) = inr (record { all = ran.all; answered = λ contents told. ran.answered contents told named; told = λ contents told. ran.told contents told named })

@@ -2,17 +2,21 @@
 use Rattle.std.proofs.Common.{◌≡◌, ◌⊎◌, ◌<◌, ℕ, Bool, true, false, if◌then◌else◌, List, All, Option, None, Some, length, refl, sym, ap, ◌∙◌, subst, inl, inr, arith}
 use Rattle.std.specs.Prelude.{◌==◌, nat_lt, slice_get}
 use Rattle.std.specs.List.{list_any}
+use Rattle.std.specs.Option.{option_map}
 use Rattle.std.proofs.lemmas.Bool.{cases_eq, ltb-true}
 use Rattle.std.proofs.lemmas.List.{length_push}
 use Rattle.flow_model.specs.Item.{Item}
-use Rattle.flow_model.specs.Moment.{Moment}
+use Rattle.flow_model.specs.Call.{Call}
+use Rattle.flow_model.specs.Moment.{Behavior, Moment, behavior_at}
+use Rattle.flow_model.specs.Refuses.{RefusesBy}
 use Rattle.flow_model.specs.declared.element.TaskElement as elements
 use Rattle.flow_model.specs.declared.source.TaskSource as sources
 use Rattle.gst_value.proofs.Basics.{some_same}
+use Rattle.lane_core.specs.Lane.{Lane}
 use Rattle.lane_core.specs.declared.ends.Inlet as inlets
 use Rattle.lane_core.specs.declared.ends.Outlet as outlets
 use Rattle.net_edits.specs.Adding.{NoneOwns}
-use Rattle.net_task.specs.Failed.{FailsAs, GaveUp, Left, Origin}
+use Rattle.net_task.specs.Failed.{FailsAs, GaveUp, Left, Origin, StandsOrFell}
 use Rattle.net_task.specs.Frame.{IsWire, TaskFrame, frame_of}
 use Rattle.net_task.specs.Ties.{Stands, nothing_lost}
 use Rattle.net_task.specs.declared.task.Task.{Task}
@@ -27,7 +31,9 @@ use Rattle.script_text.specs.declared.answer.Place.{Place}
 use Rattle.script_text.specs.declared.command.Act.{Act}
 use Rattle.script_text.specs.declared.command.Act.TheVariants as acts
 use Rattle.script_text.specs.declared.command.Command.{Command}
+use Rattle.task_parts.specs.Fault.{refusal_fault}
 use Rattle.task_parts.specs.declared.fault.TaskFault.{TaskFault}
+use Rattle.task_parts.specs.declared.part.Part.{Part}
 use Rattle.turn_loop.specs.declared.taking.TakesTurns.{Ghosts}
 use Rattle.edit_core.specs.Deciding.{IsDeed, names_its_pad}
 use Rattle.edit_core.specs.Judging.{owed_then}
@@ -41,7 +47,7 @@ use Rattle.edit_acts.proofs.Gone.{element_there}
 use Rattle.graph_pads.specs.declared.pad.PadPlace.{PadPlace}
 use Rattle.graph_tasks.specs.Written.{TaskCrossed}
 use Rattle.world_core.specs.Answering.{ActsOn, AsksFor, HasSetAside, IsActedShort, SetsAside, SetsAsideFor, TellsNothingDone}
-use Rattle.world_core.specs.Evaluated.{AreCounted, AreSetAside, EndsWithDone, HasPad, IsRunAt, IsRunOf}
+use Rattle.world_core.specs.Evaluated.{AreCounted, AreSetAside, EndsWithDone, HasFallen, HasPad, IsPartOf, IsRunAt, IsRunOf}
 use Rattle.world_core.specs.Probing.{HasActed, HasProbed}
 use Rattle.world_core.specs.Running.{HasMetAsTried, HasMetAt, IsStepped, IsTried, KeepsTurns, tells_of, view_of}
 use Rattle.world_core.specs.Watching.{HasLookedUp}
@@ -94,6 +100,13 @@ gave_up_same : (m : Moment) (n pad : ℕ) (x : Item) (origin : Origin) (behind :
 gave_up_same m n pad x _ _ _ (GaveUp.by_pad p rest waits leads) = refl
 gave_up_same m n pad x _ _ _ (GaveUp.by_source p rest waits leads) = refl
 gave_up_same m n pad x _ _ _ GaveUp.by_inlet = refl
+
+-- and is of no element
+took_same : (m : Moment) (n pad : ℕ) (x : Item) (origin : Origin) (behind : Moment) (lost : ℕ → List Item) → GaveUp m n pad x origin behind lost → (Stood : Behavior → List (List Call) → Type 0) (a : ℕ)
+    → Stood (behavior_at behind a) (behind.took a) → Stood (behavior_at m a) (m.took a)
+took_same m n pad x _ _ _ (GaveUp.by_pad p rest waits leads) Stood a stood = stood
+took_same m n pad x _ _ _ (GaveUp.by_source p rest waits leads) Stood a stood = stood
+took_same m n pad x _ _ _ GaveUp.by_inlet Stood a stood = stood
 
 -- the act of a deed
 record TakesAway (g : Edited) (act : Act) (n : ℕ) : Type 0 where
@@ -182,7 +195,8 @@ module _ {S E I O L : Type 0} {s : sources.Ghosts S} {e : elements.Ghosts E} {i 
           let ties = w.evaluated.scripted.has.run.net.tied aside.taken.place aside.taken.task aside.out.at in
           subst (AreSetAside (without_element n g) then.now) (sym aside.removed)
           (aside_more g m then.now n there (there_within g n there) w.evaluated.few w.evaluated.fits.owner then.owner then.crossed
-          (λ a low gone. took_on a low (ap (λ (h : Edited). is_there h a) next ∙ gone)) aside.taken.task ties aside.out.has only was.removed.items w.aside)
+          (λ a low gone. took_on a low (ap (λ (h : Edited). is_there h a) next ∙ gone)) aside.taken.task ties aside.out.has only
+          (λ file wire is. w.evaluated.scripted.has.run.are.sources aside.taken.place aside.taken.task n file wire aside.out.at is) was.removed.items w.aside)
 
       one_taken : HasSetAside was is n ⊎ (NoneOwns was.tasks.items n × KeepsTurns was is) → AreSetAside then.next then.now is.removed.items
       one_taken (inl aside) = subst (λ (h : Edited). AreSetAside h then.now is.removed.items) (sym next) (with_task aside)
@@ -247,7 +261,7 @@ module _ {S E I O L : Type 0} {s : sources.Ghosts S} {e : elements.Ghosts E} {i 
 
   -- ---- where it has stopped
 
-  pub at_end : (run : Running S E I O L s e i o) → IsRunOf contents script first run → IsRunAt contents script first run
+  pub at_end : (run : Running S E I O L s e i o) → IsRunOf contents script first run → IsRunAt contents script first None run
   at_end run w = record {
     was = view_of run;
     of = w.evaluated;
@@ -256,10 +270,12 @@ module _ {S E I O L : Type 0} {s : sources.Ghosts S} {e : elements.Ghosts E} {i 
     entries = refl;
     counted = λ place task at. tied_crossed (λ part. Stands w.evaluated.scripted.m part) nothing_lost w.evaluated.scripted.m w.evaluated.scripted.m refl task (w.evaluated.scripted.has.run.net.tied place task at);
     each = λ p pad. pad;
+    frames = λ place. refl;
+    parts = λ part is. inl ((w.evaluated.scripted.has.run.net.tied is.place is.task is.at).parts_tied.each is.within part is.is).stood;
   }
 
   -- a task behind its fault counted what crossed its pads
-  module _ (m : Moment) (tells over : _) (before after : Task S E I O L s e i o) where
+  module _ (m : Moment) (tells over : Option (List Lane)) (before after : Task S E I O L s e i o) where
     behind_fault : (origin : _) (fault : TaskFault) → FailsAs i o tells over m before.head after.head before.parts.items after.parts.items origin fault → TaskCrossed m after
     behind_fault _ _ (FailsAs.refused origin n pad x refusal left was refuses) = of_left left
       where
@@ -269,6 +285,35 @@ module _ {S E I O L : Type 0} {s : sources.Ghosts S} {e : elements.Ghosts E} {i 
     behind_fault _ _ (FailsAs.not_linked p x rest stay waits buffer none) = tied_crossed (λ part. Stands m part) nothing_lost m m refl after stay.0
     behind_fault _ _ (FailsAs.at_limit p x rest stay waits full) = tied_crossed (λ part. Stands m part) nothing_lost m m refl after stay.0
     behind_fault _ _ (FailsAs.no_memory origin stay) = tied_crossed (λ part. Stands m part) nothing_lost m m refl after stay.0
+
+    -- and its elements stand for what they took, but for one that refused an item
+    module _ (j : ℕ) (part : Part E O e) (at : slice_get after.parts.items j ≡ Some part) where
+      abbrev StandsNow : Type 0
+      StandsNow = e.stands part.element (behavior_at m part.number) (m.took part.number)
+
+      part_behind : (origin : _) (fault : TaskFault) → FailsAs i o tells over m before.head after.head before.parts.items after.parts.items origin fault → StandsNow ⊎ HasFallen m (Some fault) part
+      part_behind _ _ (FailsAs.refused origin n pad x refusal left was refuses) = of_left left
+        where
+          fell : part.number ≡ n → e.fell part.element (behavior_at m part.number) (m.took part.number) pad x → HasFallen m (Some (refusal_fault n refusal)) part
+          fell number is = record {
+            refusal = refusal;
+            is = ap (λ (a : ℕ). Some (refusal_fault a refusal)) (sym number);
+            pad = pad;
+            item = x;
+            fell = is;
+            why = subst (λ (a : ℕ). RefusesBy (behavior_at m a) (m.took a) pad x refusal) (sym number) refuses.why;
+          }
+
+          by_gave : (behind : Moment) (lost : ℕ → List Item) → GaveUp m n pad x origin behind lost → StandsOrFell n pad x behind part → StandsNow ⊎ HasFallen m (Some (refusal_fault n refusal)) part
+          by_gave behind lost gave (inl stands) = inl (took_same m n pad x origin behind lost gave (λ b took. e.stands part.element b took) part.number stands)
+          by_gave behind lost gave (inr is) = inr (fell is.0 (took_same m n pad x origin behind lost gave (λ b took. e.fell part.element b took pad x) part.number is.1))
+
+          of_left : Left i o m origin after.head after.parts.items n pad x → StandsNow ⊎ HasFallen m (Some (refusal_fault n refusal)) part
+          of_left l = by_gave l.behind l.lost l.gave_up (l.tied.parts_tied.each j part at).stood
+      part_behind _ _ (FailsAs.unread n why stay unread short) = inl (stay.0.parts_tied.each j part at).stood
+      part_behind _ _ (FailsAs.not_linked p x rest stay waits buffer none) = inl (stay.0.parts_tied.each j part at).stood
+      part_behind _ _ (FailsAs.at_limit p x rest stay waits full) = inl (stay.0.parts_tied.each j part at).stood
+      part_behind _ _ (FailsAs.no_memory origin stay) = inl (stay.0.parts_tied.each j part at).stood
 
   module _ (was : ScriptRun s e i o) (w : IsEvaluated contents script first was) (last : List (Task S E I O L s e i o)) (place : ℕ) (fault : TaskFault) (met : HasMet place fault was.tasks last was.tells) where
     counted_behind : AreCounted w.scripted.m last
@@ -283,6 +328,29 @@ module _ {S E I O L : Type 0} {s : sources.Ghosts S} {e : elements.Ghosts E} {i 
             subst (λ (t : Task S E I O L s e i o). TaskCrossed w.scripted.m t) (some_same (sym met.at_after ∙ ap (slice_get last) (sym same) ∙ at))
             (behind_fault w.scripted.m was.tells met.over met.before met.after failed.origin fault failed.fails)
         by (inr other) = ties k task (sym (met.others k other) ∙ at)
+
+    abbrev framed : Option (Task S E I O L s e i o) → Option TaskFrame
+    framed one = option_map (λ (task : Task S E I O L s e i o). frame_of task) one
+
+    frames_behind : (k : ℕ) → framed (slice_get last k) ≡ framed (slice_get was.tasks k)
+    frames_behind k = by (cases_eq k place)
+      where
+        by : (k ≡ place) ⊎ (k ≡ place → ⊥) → framed (slice_get last k) ≡ framed (slice_get was.tasks k)
+        by (inl same) = ap (λ (n : ℕ). framed (slice_get last n)) same ∙ ap framed met.at_after ∙ ap Some met.frame ∙ sym (ap framed met.at) ∙ ap (λ (n : ℕ). framed (slice_get was.tasks n)) (sym same)
+        by (inr other) = ap framed (met.others k other)
+
+    parts_behind : (part : Part E O e) → IsPartOf last part → e.stands part.element (behavior_at w.scripted.m part.number) (w.scripted.m.took part.number) ⊎ HasFallen w.scripted.m (Some fault) part
+    parts_behind part is = by (cases_eq is.place place)
+      where
+        by : (is.place ≡ place) ⊎ (is.place ≡ place → ⊥) → e.stands part.element (behavior_at w.scripted.m part.number) (w.scripted.m.took part.number) ⊎ HasFallen w.scripted.m (Some fault) part
+        by (inl same) =
+            let failed = met.failed w.scripted.m (w.scripted.has.run.net.tied place met.before met.at) in
+            let task = some_same (sym is.at ∙ ap (slice_get last) same ∙ met.at_after) in
+            part_behind w.scripted.m was.tells met.over met.before met.after is.within part
+            (subst (λ (t : Task S E I O L s e i o). slice_get t.parts.items is.within ≡ Some part) task is.is) failed.origin fault failed.fails
+        by (inr other) =
+            let tied = w.scripted.has.run.net.tied is.place is.task (sym (met.others is.place other) ∙ is.at) in
+            inl (tied.parts_tied.each is.within part is.is).stood
 
     each_behind : (p : ℕ) → HasPad was.tasks p → HasPad last p
     each_behind p pad = by (cases_eq pad.place place)
@@ -300,7 +368,7 @@ module _ {S E I O L : Type 0} {s : sources.Ghosts S} {e : elements.Ghosts E} {i 
 
   -- a fault at a step
   at_step : (was is : Running S E I O L s e i o) (place : ℕ) (fault : TaskFault) → IsRunOf contents script first was → HasMet place fault was.tasks.items is.tasks.items (tells_of was) → KeepsControl (view_of was) (view_of is)
-      → is.removed.items ≡ was.removed.items → IsRunAt contents script first is
+      → is.removed.items ≡ was.removed.items → IsRunAt contents script first (Some fault) is
   at_step was is place fault w met control removed = record {
     was = view_of was;
     of = w.evaluated;
@@ -309,11 +377,13 @@ module _ {S E I O L : Type 0} {s : sources.Ghosts S} {e : elements.Ghosts E} {i 
     entries = control.entries;
     counted = counted_behind (view_of was) w.evaluated is.tasks.items place fault met;
     each = each_behind (view_of was) w.evaluated is.tasks.items place fault met;
+    frames = frames_behind (view_of was) w.evaluated is.tasks.items place fault met;
+    parts = parts_behind (view_of was) w.evaluated is.tasks.items place fault met;
   }
 
   -- or as each was tried
   at_try : TurnsKeepEvaluated s e i o → (was is : Running S E I O L s e i o) (fault : TaskFault) → IsRunOf contents script first was → (met : HasMetTrying fault was.tasks.items is.tasks.items (tells_of was)) → KeepsControl (view_of was) (view_of is)
-      → is.removed.items ≡ was.removed.items → IsRunAt contents script first is
+      → is.removed.items ≡ was.removed.items → IsRunAt contents script first (Some fault) is
   at_try law was is fault w met control removed =
       let mid : ScriptRun s e i o = record (view_of was) { tasks = met.was; tells = met.tells } in
       let z = law.trial contents script first (view_of was) mid met.place met.moved w.evaluated met.tried (record { graph = refl; feeds = refl; commands = refl; entries = refl }) in
@@ -327,13 +397,15 @@ module _ {S E I O L : Type 0} {s : sources.Ghosts S} {e : elements.Ghosts E} {i 
         entries = control.entries;
         counted = counted_behind mid z.run is.tasks.items met.place fault met.met;
         each = each_behind mid z.run is.tasks.items met.place fault met.met;
+        frames = frames_behind mid z.run is.tasks.items met.place fault met.met;
+        parts = parts_behind mid z.run is.tasks.items met.place fault met.met;
       }
 
   pub at_stop : TurnsKeepEvaluated s e i o → {t : Ghosts (Running S E I O L s e i o) RunFault} → (last : Running S E I O L s e i o) (stop : Stopped)
       → ((was is : Running S E I O L s e i o) → t.act_failed was is (AtFault stop) → IsActedShort was is)
       → ((place : ℕ) (was is : Running S E I O L s e i o) → t.step_failed place was is (AtFault stop) → HasMetAt place was is (AtFault stop))
       → ((was is : Running S E I O L s e i o) → t.try_failed was is (AtFault stop) → HasMetAsTried was is (AtFault stop))
-      → Meets t (IsRunOf contents script first) last (AtFault stop) → IsRunAt contents script first last ⊎ EndsWithDone last.entries.items
+      → Meets t (IsRunOf contents script first) last (AtFault stop) → IsRunAt contents script first (Some stop.fault) last ⊎ EndsWithDone last.entries.items
   at_stop law last stop acting stepping trying (Meets.at_act was w why) = let short = acting was last why in inr (record { before = was.entries.items; places = short.places; are = short.entered })
   at_stop law last stop acting stepping trying (Meets.at_step place was w why) = let met = stepping place was last why in inl (at_step was last place stop.fault w met.0 met.2 met.3.turns.removed)
   at_stop law last stop acting stepping trying (Meets.at_trial was w why) = let met = trying was last why in inl (at_try law was last stop.fault w met.0 met.2 met.3.turns.removed)

@@ -55,6 +55,8 @@ mod ScriptReports
 mod ScriptBegun
 mod ScriptEnds
 mod ScriptFiles
+mod ScriptHeld
+mod ScriptBytes
 pub mod Tasks
 pub mod Begun
 pub mod Writes

@@ -72,6 +72,8 @@ module _ {S E I O L : Type 0} {s : givers.Ghosts S} {e : elements.Ghosts E} {i :
     counted = λ place task at. absurd (none_some at);
     gone = λ p has. absurd (none_some has.at);
     each = λ p gone. absurd (true≢false (sym (all_there graph g same p (m.plan.owner p) (owners p) gone.0) ∙ gone.1));
+    elements = λ a low gone none.
+        absurd (true≢false (sym (ap (λ (h : Edited). is_there h a) same ∙ lt-ltb a (length (made_in graph)) (subst (λ (h : Edited). a < length h.made) same low)) ∙ gone));
     parts = λ part is. absurd (none_some is.at);
   }
 

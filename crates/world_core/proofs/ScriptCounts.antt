@@ -21,6 +21,7 @@ use Rattle.net_task.specs.declared.task.Task.{Task}
 use Rattle.net_turns.specs.Net.{HasElement, NetStands, Owns}
 use Rattle.script_text.specs.declared.command.Command.{Command}
 use Rattle.task_pads.specs.Pads.{number_of}
+use Rattle.task_parts.specs.declared.fault.TaskFault.{TaskFault}
 use Rattle.task_parts.specs.declared.head.Head.{Head}
 use Rattle.task_parts.specs.declared.head.SourceHead.{SourceHead}
 use Rattle.task_parts.specs.declared.head.Head.TheVariants.{Inlets, Source}
@@ -112,7 +113,7 @@ module _ {S E I O L : Type 0} {s : sources.Ghosts S} {e : elements.Ghosts E} {i 
 
   -- ---- where a run of a script has stopped
 
-  module _ (contents : ℕ → List ℕ) (script : List Command) (first : Edited) (run : Running S E I O L s e i o) (w : IsRunAt contents script first run) where
+  module _ (contents : ℕ → List ℕ) (script : List Command) (first : Edited) (met : Option TaskFault) (run : Running S E I O L s e i o) (w : IsRunAt contents script first met run) where
     abbrev last : Edited
     last = w.of.scripted.g
 

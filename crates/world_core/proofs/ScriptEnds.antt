@@ -1,5 +1,5 @@
 -- How a run of a script has ended, by what it leaves and what is told of that.
-use Rattle.std.proofs.Common.{◌≡◌, ◌∙◌, ◌⊎◌, ℕ, true, false, All, List, Option, None, Some, Result, Ok, Err, IfErr, IfOk, OnOk, is_some, length, min, refl, sym, take, ap, subst}
+use Rattle.std.proofs.Common.{◌≡◌, ◌∙◌, ◌⊎◌, ℕ, true, false, All, List, Option, None, Some, Result, Ok, Err, IfErr, IfOk, OnOk, inl, inr, is_some, length, min, refl, sym, take, ap, subst}
 use Rattle.std.proofs.lemmas.List.{take_min}
 use Rattle.flow_model.specs.declared.element.TaskElement as elements
 use Rattle.flow_model.specs.declared.source.TaskSource as givers
@@ -119,15 +119,37 @@ module _ {S E I O L : Type 0} {s : givers.Ghosts S} {e : elements.Ghosts E} {i :
       entries_answer _ _ (ScriptStops.over live live_is told) over met names w = law.ended order 0 first last next graph script (over order 0 goes) names w
       entries_answer _ _ (ScriptStops.stalled live told live_is other tells) over met names w = law.ended order 0 first last next graph script (over order 0 goes) names w
 
-      pub script_ended : (before : Seen) → ((contents : ℕ → List ℕ) → WereTold (made_in graph) before contents → IsRunOf contents script (line_graph graph) first)
+      pub script_ended : (before : Seen) (Holds : (ℕ → List ℕ) → Type 0) → ((contents : ℕ → List ℕ) → WereTold (made_in graph) before contents → IsRunOf contents script (line_graph graph) first)
           → (ran : Result (Unit {0}) RunFault) (own : Stop) → ScriptStops ended ran own → OnOk ran (HasRunTo t turns next first last) → IfErr ran (HasMetIn t turns next first last)
           → (end : WorldEnd) → end.status ≡ stop_status own → end.report.entries ≡ ended.entries.items
-          → ((contents : ℕ → List ℕ) → IsRunOf contents script (line_graph graph) first → All (λ c. names_its_pad c ≡ true) script → IsEditedReport contents graph script end.report ⊎ FailsInEdit end)
-          → ScriptEnded graph script before end
-      script_ended before evaluated ran own stops over met end status told reported = record {
+          → ((contents : ℕ → List ℕ) → IsRunOf contents script (line_graph graph) first → All (λ c. names_its_pad c ≡ true) script → IsEditedReport contents graph script Holds end.report ⊎ FailsInEdit end)
+          → ScriptEnded graph script before Holds end
+      script_ended before Holds evaluated ran own stops over met end status told reported = record {
         all = λ none. ap length told ∙ all_answered ran own stops over (sym status ∙ none);
         answered = λ contents were names.
             subst (λ (entries : List Entry). AnswersScript graph script entries) (sym (told ∙ ap (λ entries. entries.items) entries_are))
             (entries_answer ran own stops over met names (evaluated contents were).evaluated.scripted);
         told = λ contents were names. reported contents (evaluated contents were) names;
       }
+
+-- the same is told of a run by what is known otherwise of its files
+pub script_with : (graph : Graph) (script : List Command) (before : Seen) (Holds Other : (ℕ → List ℕ) → Type 0) (end : WorldEnd) → ((b : ℕ → List ℕ) → Holds b → Other b) → ScriptEnded graph script before Holds end
+    → ScriptEnded graph script before Other end
+script_with graph script before Holds Other end more ended = record { all = ended.all; answered = ended.answered; told = λ contents were names. by contents (ended.told contents were names) }
+  where
+    by : (contents : ℕ → List ℕ) → IsEditedReport contents graph script Holds end.report ⊎ FailsInEdit end → IsEditedReport contents graph script Other end.report ⊎ FailsInEdit end
+    by contents (inr fails) = inr fails
+    by contents (inl one) = inl (record {
+      last = one.last;
+      forward = one.forward;
+      order = one.order;
+      h = one.h;
+      evaluated = one.evaluated;
+      answered = one.answered;
+      falls = one.falls;
+      pads = one.pads;
+      bytes = one.bytes;
+      sinks = one.sinks;
+      files = more one.bytes one.files;
+      written = one.written;
+    })

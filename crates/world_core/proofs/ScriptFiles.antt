@@ -53,7 +53,7 @@ use Rattle.world_core.proofs.Returned.{asked_at, no_read, no_written, put_none, 
 use Rattle.world_core.proofs.Traced.{PartAt, part_there, taken_from}
 
 -- what stands at a place where things were put twice, of which one at least is there
-put_twice : {A : Type 0} (Q : A → Type 0) (First Second : ℕ → A → Type 0) (old mid new : List A) (n : ℕ) → ((x : A) → First n x → Q x) → ((x : A) → Second n x → Q x)
+pub put_twice : {A : Type 0} (Q : A → Type 0) (First Second : ℕ → A → Type 0) (old mid new : List A) (n : ℕ) → ((x : A) → First n x → Q x) → ((x : A) → Second n x → Q x)
     → (x : A) × (First n x ⊎ Second n x) → IsPutAt First old mid n → IsPutAt Second mid new n → (x : A) × (slice_get new n ≡ Some x) × Q x
 put_twice Q First Second old mid new n one two some first (IsPutAt.was_put x here is) = (x, is, two x here)
 put_twice Q First Second old mid new n one two some (IsPutAt.was_put x here is) (IsPutAt.was_kept none same) = (x, same ∙ is, one x here)
@@ -61,13 +61,13 @@ put_twice Q First Second old mid new n one two (x, inl here) (IsPutAt.was_kept a
 put_twice Q First Second old mid new n one two (x, inr here) first (IsPutAt.was_kept none same) = absurd (none x here)
 
 -- a list is framed as it is
-same_framed : {S E I O L : Type 0} {s : givers.Ghosts S} {e : elements.Ghosts E} {i : inlets.Ghosts I L O} {o : outlets.Ghosts O L} (tasks : List (Task S E I O L s e i o)) → AllFramed tasks tasks
+pub same_framed : {S E I O L : Type 0} {s : givers.Ghosts S} {e : elements.Ghosts E} {i : inlets.Ghosts I L O} {o : outlets.Ghosts O L} (tasks : List (Task S E I O L s e i o)) → AllFramed tasks tasks
 same_framed {o = o} tasks k before after here there = ap (λ (task : Task _ _ _ _ _ _ _ _ _). frame_of task) (same_Some after before (sym there ∙ here))
 
 module _ {S K I O L : Type 0} {giver : givers.Ghosts (StreamSource S)} {taker : elements.Ghosts (StreamElement K)} {i : inlets.Ghosts I L O} {o : outlets.Ghosts O L}
     (tasks : List (Task (StreamSource S) (StreamElement K) I O L giver taker i o)) where
   -- an element of tasks holds its file, and what holds a file is an element of them
-  part_holds : (d : ℕ) (x : StreamElement K) → Among HasPart tasks d x → HoldsFile tasks (Holder.element d) (taker.file x)
+  pub part_holds : (d : ℕ) (x : StreamElement K) → Among HasPart tasks d x → HoldsFile tasks (Holder.element d) (taker.file x)
   part_holds d x own = record {
     place = own.place;
     thing = own.one;
@@ -182,7 +182,7 @@ module _ {S K I O L : Type 0} {giver : givers.Ghosts (StreamSource S)} {taker : 
     firsts : all_tasks run ≡ run.tasks.items
     firsts = ap (λ (ts : List (Task (StreamSource S) (StreamElement K) I O L giver taker i o)). run.tasks.items ++ ts) begins.none_removed ∙ append-nil run.tasks.items
 
-    was_held : (holder : Holder) (file : File) → HoldsFile (last ++ removed) holder file → HoldsFile run.tasks.items holder file
+    pub was_held : (holder : Holder) (file : File) → HoldsFile (last ++ removed) holder file → HoldsFile run.tasks.items holder file
     was_held holder file h = subst (λ (ts : List (Task (StreamSource S) (StreamElement K) I O L giver taker i o)). HoldsFile ts holder file) firsts ((kept.same holder file).1 h)
 
     is_held : (holder : Holder) (file : File) → HoldsFile run.tasks.items holder file → HoldsFile last holder file ⊎ HoldsFile removed holder file
@@ -190,14 +190,14 @@ module _ {S K I O L : Type 0} {giver : givers.Ghosts (StreamSource S)} {taker : 
         either _ last removed ((kept.same holder file).0 (subst (λ (ts : List (Task (StreamSource S) (StreamElement K) I O L giver taker i o)). HoldsFile ts holder file) (sym firsts) h))
 
     -- each element that is given back has the file that was opened for it
-    last_file : (d : ℕ) (m : Made) (x : StreamElement K) → slice_get (made_in graph) d ≡ Some m → HasElement last rest d x → taker.file x ≡ writes_then d m
+    pub last_file : (d : ℕ) (m : Made) (x : StreamElement K) → slice_get (made_in graph) d ≡ Some m → HasElement last rest d x → taker.file x ≡ writes_then d m
     last_file d m x here (inl own) = first_file d m (taker.file x) here (was_held (Holder.element d) (taker.file x) (one_first _ last removed (part_holds last d x own)))
     last_file d m x here (inr is) = rest_file d m x here is
 
     none_in : {A : Type 0} (d : ℕ) (x : A) → slice_get [] d ≡ Some x → ⊥
     none_in d x is = let low = slice_get_within [] d x is in omega (arith, low)
 
-    removed_file : (d : ℕ) (m : Made) (x : StreamElement K) → slice_get (made_in graph) d ≡ Some m → HasElement removed [] d x → taker.file x ≡ writes_then d m
+    pub removed_file : (d : ℕ) (m : Made) (x : StreamElement K) → slice_get (made_in graph) d ≡ Some m → HasElement removed [] d x → taker.file x ≡ writes_then d m
     removed_file d m x here (inl own) = first_file d m (taker.file x) here (was_held (Holder.element d) (taker.file x) (one_second _ last removed (part_holds removed d x own)))
     removed_file d m x here (inr is) = absurd (none_in d (Some x) is)
 
@@ -213,16 +213,16 @@ module _ {S K I O L : Type 0} {giver : givers.Ghosts (StreamSource S)} {taker : 
       count : length ends ≡ length (made_in graph)
       count = aside.count ∙ back.count ∙ begins.filled.end_count ∙ end_count s k (made_in graph) begins.ends before begins.opened begins.opens
 
-      back_at : (d : ℕ) (m : Made) → slice_get (made_in graph) d ≡ Some m → IsPutAt (GivesBack (made_in graph) last rest) left mid d
+      pub back_at : (d : ℕ) (m : Made) → slice_get (made_in graph) d ≡ Some m → IsPutAt (GivesBack (made_in graph) last rest) left mid d
       back_at d m here = let low = slice_get_within (made_in graph) d m here in let size = aside.count in back.each d (omega (arith, low, count, size, back.count))
 
-      aside_at : (d : ℕ) (m : Made) → slice_get (made_in graph) d ≡ Some m → IsPutAt (GivesBack (made_in graph) removed []) mid ends d
+      pub aside_at : (d : ℕ) (m : Made) → slice_get (made_in graph) d ≡ Some m → IsPutAt (GivesBack (made_in graph) removed []) mid ends d
       aside_at d m here = let low = slice_get_within (made_in graph) d m here in aside.each d (omega (arith, low, count, aside.count))
 
       -- of a file that is written
       module _ (d : ℕ) (m : Made) (location : List ℕ) (here : slice_get (made_in graph) d ≡ Some m) (own : IsWriter m.settings location)
           (there : (file : K) × (at begins.ends d ≡ Some (Snk file)) × (k.location file ≡ Some location)) where
-        written : (x : StreamElement K) → taker.file x ≡ writes_then d m → (file : K) × (file_in x ≡ Some file) × (k.location file ≡ Some location)
+        pub written : (x : StreamElement K) → taker.file x ≡ writes_then d m → (file : K) × (file_in x ≡ Some file) × (k.location file ≡ Some location)
         written x is =
             mapped k.location (file_in x) (Some location)
             (sym (taken x) ∙ is

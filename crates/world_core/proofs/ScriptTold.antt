@@ -1,11 +1,13 @@
 -- The report of a run of a script tells the evaluation of the graph as its commands left it.
-use Rattle.std.proofs.Common.{◌≡◌, ◌++◌, ◌*◌, ℕ, List, length, arith, refl, rules, sym, ◌∙◌, subst, vec_len}
+use Rattle.std.proofs.Common.{◌≡◌, ◌⊎◌, ◌++◌, ◌*◌, ℕ, List, Option, Some, length, arith, refl, rules, sym, ◌∙◌, subst, vec_len, inl, inr}
+use Rattle.std.specs.Prelude.{slice_get}
 use Rattle.flow_model.specs.Item.{Item}
 use Rattle.flow_model.specs.Moment.{Moment}
 use Rattle.flow_model.specs.Prefix.{IsPrefix}
 use Rattle.flow_model.specs.declared.element.TaskElement as elements
 use Rattle.flow_model.specs.declared.source.TaskSource as sources
 use Rattle.flow_model.proofs.Prefixes.{prefix_refl}
+use Rattle.graph_core.specs.Elements.{Made}
 use Rattle.graph_core.specs.Links.{ways}
 use Rattle.graph_core.specs.declared.graph.Graph.{Graph}
 use Rattle.graph_edits.specs.Edited.{Edited}
@@ -18,17 +20,22 @@ use Rattle.graph_edits.proofs.Staying.{stays_lawful}
 use Rattle.graph_order.specs.Forward.{forward_of, links_of}
 use Rattle.graph_order.proofs.Same.{same_forward}
 use Rattle.graph_parts.specs.Counts.{TasksCounted}
+use Rattle.graph_parts.specs.Files.{opening_of}
 use Rattle.graph_parts.specs.Put.{PutBack}
 use Rattle.graph_parts.specs.declared.counts.Count.{Count}
 use Rattle.lane_core.specs.declared.ends.Inlet as inlets
 use Rattle.lane_core.specs.declared.ends.Outlet as outlets
+use Rattle.run_files.specs.declared.end.Opening.TheVariants.{Write}
+use Rattle.run_report.specs.declared.report.Fault.TheVariants as faults
 use Rattle.run_report.specs.declared.report.Report.{Report}
 use Rattle.script_text.specs.declared.answer.Entry.{Entry}
 use Rattle.script_text.specs.declared.command.Command.{Command}
+use Rattle.task_parts.specs.declared.fault.TaskFault.{TaskFault}
+use Rattle.task_parts.specs.declared.fault.TaskFault.TheVariants.{WriteFault}
 use Rattle.edit_acts.specs.Evaluated.{OweInOrder, RunsAreEvaluated}
 use Rattle.world_core.specs.Begins.{line_graph}
-use Rattle.world_core.specs.Evaluated.{IsEditedReport, IsRunAt, plan_at}
-use Rattle.world_core.specs.Told.{pads_told}
+use Rattle.world_core.specs.Evaluated.{HasFailedToWrite, IsEditedReport, IsRunAt, IsWrittenBy, plan_at}
+use Rattle.world_core.specs.Told.{pads_told, sink_entries, sinks_told}
 use Rattle.world_core.specs.declared.running.Running.{Running}
 use Rattle.world_core.proofs.Counted.{pads_are_told}
 use Rattle.world_core.proofs.ScriptCounts.{script_counted}
@@ -44,7 +51,7 @@ is_order graph g is = record {
 }
 
 module _ {S E I O L : Type 0} {s : sources.Ghosts S} {e : elements.Ghosts E} {i : inlets.Ghosts I L O} {o : outlets.Ghosts O L} (law : RunsAreEvaluated s e i o) (owes : OweInOrder e)
-    (contents : ℕ → List ℕ) (script : List Command) (graph : Graph) (run : Running S E I O L s e i o) (w : IsRunAt contents script (line_graph graph) run) where
+    (contents : ℕ → List ℕ) (script : List Command) (graph : Graph) (met : Option TaskFault) (run : Running S E I O L s e i o) (w : IsRunAt contents script (line_graph graph) met run) where
   abbrev last : Edited
   last = w.of.scripted.g
 
@@ -75,10 +82,21 @@ module _ {S E I O L : Type 0} {s : sources.Ghosts S} {e : elements.Ghosts E} {i 
       subst (λ (entries : List Entry). AreAnswered now.history owed (line_graph graph) script entries last) (sym w.entries)
       (stays_lawful.entries now.history w.of.scripted.due now.history owed (line_graph graph) last script w.was.entries w.of.scripted.kept grows w.of.scripted.answered)
 
-  -- Its counts are those of what crossed the pads.
+  -- What is told of the files of filesinks, by the lengths that tasks gave back: each holds all that its links gave it, but where a task met the fault that a write of it failed.
+  pub record FilesTold (lengths : List ℕ) (Holds : (ℕ → List ℕ) → Type 0) : Type 0 where
+    pub bytes : ℕ → List ℕ
+    pub sinks : sinks_told last.made lengths ≡ sink_entries last.made bytes
+    pub files : Holds bytes
+    pub written : (d : ℕ) → IsWrittenBy last now.history bytes d
+        ⊎ ((m : Made) × (location : List ℕ) × (a : ℕ) × (b : ℕ) × (slice_get last.made d ≡ Some m) × (opening_of m.settings ≡ Some (Write location)) × (met ≡ Some (WriteFault d a b)))
+
+  -- Its counts are those of what crossed the pads, and its files those.
   pub edited_report : (none mid counts : List Count) → length none ≡ length last.made * 64 → PutBack (TasksCounted run.tasks.items) none mid → PutBack (TasksCounted run.removed.items) mid counts
-      → (report : Report) → report.entries ≡ run.entries.items → report.pads ≡ pads_told last.made counts → IsEditedReport contents graph script report
-  edited_report none mid counts size one other report entries pads = record {
+      → (lengths : List ℕ) (Holds : (ℕ → List ℕ) → Type 0) → FilesTold lengths Holds → (report : Report) → report.entries ≡ run.entries.items → report.pads ≡ pads_told last.made counts
+      → report.sinks ≡ sinks_told last.made lengths
+      → ((d : ℕ) (m : Made) (location : List ℕ) (a b : ℕ) → slice_get last.made d ≡ Some m → opening_of m.settings ≡ Some (Write location) → met ≡ Some (WriteFault d a b) → report.fault ≡ faults.WriteFault location a b)
+      → IsEditedReport contents graph script Holds report
+  edited_report none mid counts size one other lengths Holds told report entries pads sinks failed = record {
     last = last;
     forward = forward;
     order = order;
@@ -86,5 +104,15 @@ module _ {S E I O L : Type 0} {s : sources.Ghosts S} {e : elements.Ghosts E} {i 
     evaluated = λ p pad. law.histories owes contents forward last now w.of.scripted.due w.was w.of.scripted.has w.of.fits w.of.few order p pad;
     answered = subst (λ (es : List Entry). AreAnswered now.history owed (line_graph graph) script es last) (sym entries) answered;
     falls = subst (λ (es : List Entry). NeverFall es) (sym (entries ∙ w.entries)) w.of.scripted.falls;
-    pads = pads ∙ pads_are_told last.made counts now.history (script_counted contents script (line_graph graph) run w none mid counts size one other);
+    pads = pads ∙ pads_are_told last.made counts now.history (script_counted contents script (line_graph graph) met run w none mid counts size one other);
+    bytes = told.bytes;
+    sinks = sinks ∙ told.sinks;
+    files = told.files;
+    written = λ d. by d (told.written d);
   }
+    where
+      by : (d : ℕ) → IsWrittenBy last now.history told.bytes d
+          ⊎ ((m : Made) × (location : List ℕ) × (a : ℕ) × (b : ℕ) × (slice_get last.made d ≡ Some m) × (opening_of m.settings ≡ Some (Write location)) × (met ≡ Some (WriteFault d a b)))
+          → IsWrittenBy last now.history told.bytes d ⊎ HasFailedToWrite last.made report d
+      by d (inl is) = inl is
+      by d (inr (m, location, a, b, at, opens, is)) = inr (record { element = m; at = at; location = location; opens = opens; first = a; second = b; fault = failed d m location a b at opens is })

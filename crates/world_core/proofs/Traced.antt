@@ -44,7 +44,7 @@ pub record PartAt {S E I O L : Type 0} {s : givers.Ghosts S} {e : elements.Ghost
 
 module _ {S E I O L : Type 0} {s : givers.Ghosts S} {e : elements.Ghosts E} {i : inlets.Ghosts I L O} {o : outlets.Ghosts O L} where
   -- two tasks with one frame have the same parts
-  part_back : (after before : Task S E I O L s e i o) (j : ℕ) (part : Part E O e) → frame_of after ≡ frame_of before → slice_get after.parts.items j ≡ Some part
+  pub part_back : (after before : Task S E I O L s e i o) (j : ℕ) (part : Part E O e) → frame_of after ≡ frame_of before → slice_get after.parts.items j ≡ Some part
       → (was : Part E O e) × (slice_get before.parts.items j ≡ Some was) × (part_frame o part ≡ part_frame o was)
   part_back after before j part same here =
       map_got (part_frame o) before.parts.items j (part_frame o part)

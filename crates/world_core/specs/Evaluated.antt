@@ -1,14 +1,22 @@
 -- A run of a script by the evaluation of its graph: the tasks that were set aside, and what its report tells.
-use Rattle.std.specs.Prelude.{◌≡◌, ◌⊎◌, ◌<◌, ◌++◌, ℕ, true, false, All, List, [], ◌∷◌, Some, length, slice_get}
+use Rattle.std.specs.Prelude.{◌≡◌, ◌⊎◌, ◌<◌, ◌++◌, ℕ, true, false, All, List, [], ◌∷◌, Option, None, Some, length, option_map, slice_get}
 use Rattle.flow_model.specs.Eval.{Plan, eval}
 use Rattle.flow_model.specs.Item.{Item}
-use Rattle.flow_model.specs.Moment.{Behavior, Moment}
+use Rattle.flow_model.specs.Moment.{Behavior, Moment, behavior_at}
+use Rattle.flow_model.specs.Refuses.{RefusesBy}
+use Rattle.flow_model.specs.SinkBytes.{sink_bytes}
+use Rattle.flow_model.specs.declared.refusal.Refusal.{Refusal}
 use Rattle.flow_model.specs.declared.element.TaskElement as elements
 use Rattle.flow_model.specs.declared.source.TaskSource as sources
+use Rattle.el_set.specs.Made.{keeps_flushed}
+use Rattle.el_settings.specs.Asked.{is_source, writes}
+use Rattle.graph_core.specs.Allowed.{first_pad}
+use Rattle.graph_core.specs.Elements.{Made, has}
 use Rattle.graph_core.specs.declared.graph.Graph.{Graph}
 use Rattle.graph_edits.specs.Edited.{Edited, is_there}
 use Rattle.graph_edits.specs.Lawful.{AreAnswered, NeverFall, owed_by}
-use Rattle.graph_edits.specs.Plans.{IsOrder, edited_plan}
+use Rattle.graph_edits.specs.Plans.{IsOrder, edited_plan, items_at}
+use Rattle.graph_parts.specs.Files.{opening_of}
 use Rattle.graph_parts.specs.Pads.{is_pad}
 use Rattle.graph_tasks.specs.Written.{TaskCrossed}
 use Rattle.lane_core.specs.declared.ends.Inlet as inlets
@@ -16,11 +24,15 @@ use Rattle.lane_core.specs.declared.ends.Outlet as outlets
 use Rattle.net_task.specs.Frame.{IsWire, Wire, frame_of}
 use Rattle.net_task.specs.declared.task.Task.{Task}
 use Rattle.net_turns.specs.declared.net.Stopped.{Stopped}
+use Rattle.run_files.specs.declared.end.Opening.TheVariants.{Write}
+use Rattle.run_report.specs.declared.report.Fault.TheVariants as faults
 use Rattle.run_report.specs.declared.report.Report.{Report}
 use Rattle.script_text.specs.declared.answer.Answer.TheVariants.{Done}
 use Rattle.script_text.specs.declared.answer.Entry.{Entry}
 use Rattle.script_text.specs.declared.answer.Place.{Place}
 use Rattle.script_text.specs.declared.command.Command.{Command}
+use Rattle.task_parts.specs.Fault.{refusal_fault}
+use Rattle.task_parts.specs.declared.fault.TaskFault.{TaskFault}
 use Rattle.task_parts.specs.declared.part.Part.{Part}
 use Rattle.turn_loop.specs.Turns.{HasEnded, HasFailed}
 use Rattle.turn_loop.specs.declared.taking.TakesTurns as turns
@@ -31,7 +43,7 @@ use Rattle.edit_acts.specs.Evaluated.{IsEvaluated, OweInOrder}
 use Rattle.edit_acts.specs.Scripted.{ScriptRun}
 use Rattle.world_core.specs.Begins.{line_graph}
 use Rattle.world_core.specs.Running.{view_of}
-use Rattle.world_core.specs.Told.{pad_entries}
+use Rattle.world_core.specs.Told.{pad_entries, sink_entries}
 use Rattle.world_core.specs.declared.running.RunFault.{RunFault}
 use Rattle.world_core.specs.declared.running.RunFault.TheVariants.{Stopped as AtFault}
 use Rattle.world_core.specs.declared.running.Running.{Running}
@@ -42,10 +54,24 @@ use Rattle.world_core.specs.declared.running.Running.{Running}
 abbrev pub plan_at : (ℕ → List ℕ) → Edited → List ℕ → (ℕ → List Item) → Plan
 plan_at contents g forward h = edited_plan contents g forward (λ q. length (h q))
 
+-- the bytes of a filesink's file are those of all that its links gave it
+abbrev pub IsWrittenBy : Edited → (ℕ → List Item) → (ℕ → List ℕ) → ℕ → Type 0
+IsWrittenBy g h bytes d = (m : Made) → slice_get g.made d ≡ Some m → writes m.settings ≡ true → bytes d ≡ sink_bytes (keeps_flushed m.settings) (items_at g h (first_pad d))
+
+-- a write of a filesink failed, and the report tells it
+pub record HasFailedToWrite (made : List Made) (report : Report) (d : ℕ) : Type 0 where
+  pub element : Made
+  pub at : slice_get made d ≡ Some element
+  pub location : List ℕ
+  pub opens : opening_of element.settings ≡ Some (Write location)
+  pub first : ℕ
+  pub second : ℕ
+  pub fault : report.fault ≡ faults.WriteFault location first second
+
 -- The counts of a report are those of the histories that the evaluation gives of the graph as its commands left it, cut at these counts: one pass over all elements that ever
--- were, with every link made and undone at the place that the entries name. And by these histories the entries answer the first commands lawfully, one after the
--- other, and of one pad no later place is below an earlier one.
-pub record IsEditedReport (contents : ℕ → List ℕ) (graph : Graph) (script : List Command) (report : Report) : Type 0 where
+-- were, with every link made and undone at the place that the entries name. By these histories the entries answer the first commands lawfully, one after the
+-- other, and of one pad no later place is below an earlier one. And each filesink that ever was holds the bytes of all that its links gave it, but one of which a write failed.
+pub record IsEditedReport (contents : ℕ → List ℕ) (graph : Graph) (script : List Command) (Holds : (ℕ → List ℕ) → Type 0) (report : Report) : Type 0 where
   pub last : Edited
   pub forward : List ℕ
   pub order : IsOrder last forward
@@ -54,6 +80,10 @@ pub record IsEditedReport (contents : ℕ → List ℕ) (graph : Graph) (script 
   pub answered : AreAnswered h (owed_by (plan_at contents last forward h) h) (line_graph graph) script report.entries last
   pub falls : NeverFall report.entries
   pub pads : report.pads ≡ pad_entries last.made h
+  pub bytes : ℕ → List ℕ
+  pub sinks : report.sinks ≡ sink_entries last.made bytes
+  pub files : Holds bytes
+  pub written : (d : ℕ) → IsWrittenBy last h bytes d ⊎ HasFailedToWrite last.made report d
 
 -- the last of the commands that were answered was done
 pub record EndsWithDone (entries : List Entry) : Type 0 where
@@ -66,6 +96,16 @@ pub record EndsWithDone (entries : List Entry) : Type 0 where
 -- a source pad of an element that was taken away
 abbrev pub IsGonePad : Edited → Moment → ℕ → Type 0
 IsGonePad g m p = (is_pad g.made p ≡ true) × (is_there g (m.plan.owner p) ≡ false)
+
+module _ {E O : Type 0} {e : elements.Ghosts E} where
+  -- an element of a task refused an item, which is the fault that the task met
+  pub record HasFallen (m : Moment) (met : Option TaskFault) (part : Part E O e) : Type 0 where
+    pub refusal : Refusal
+    pub is : met ≡ Some (refusal_fault part.number refusal)
+    pub pad : ℕ
+    pub item : Item
+    pub fell : e.fell part.element (behavior_at m part.number) (m.took part.number) pad item
+    pub why : RefusesBy (behavior_at m part.number) (m.took part.number) pad item refusal
 
 module _ {S E I O L : Type 0} {s : sources.Ghosts S} {e : elements.Ghosts E} {i : inlets.Ghosts I L O} {o : outlets.Ghosts O L} where
   -- the pads of tasks counted what crossed them
@@ -89,11 +129,13 @@ module _ {S E I O L : Type 0} {s : sources.Ghosts S} {e : elements.Ghosts E} {i 
     pub within : ℕ
     pub is : slice_get task.parts.items within ≡ Some part
 
-  -- Tasks were set aside with the elements that were taken away: they have the pads of these and no other ones, which counted what crossed them, and their elements stand for what they took.
+  -- Tasks were set aside with the elements that were taken away: they have these, and the pads of these and no other ones, which counted what
+  -- crossed them, and their elements stand for what they took.
   pub record AreSetAside (g : Edited) (m : Moment) (removed : List (Task S E I O L s e i o)) : Type 0 where
     pub counted : AreCounted m removed
     pub gone : (p : ℕ) → HasPad removed p → IsGonePad g m p
     pub each : (p : ℕ) → IsGonePad g m p → HasPad removed p
+    pub elements : (a : ℕ) → a < length g.made → is_there g a ≡ false → has is_source g.made a ≡ false → (part : Part E O e) × IsPartOf removed part × (part.number ≡ a)
     pub parts : (part : Part E O e) → IsPartOf removed part → (part.number < length g.made) × (is_there g part.number ≡ false) × ((behavior : Behavior) × e.stands part.element behavior (m.took part.number))
 
   -- A run of a script, with the tasks that it has set aside.
@@ -101,8 +143,9 @@ module _ {S E I O L : Type 0} {s : sources.Ghosts S} {e : elements.Ghosts E} {i 
     pub evaluated : IsEvaluated contents script first (view_of run)
     pub aside : AreSetAside evaluated.scripted.g evaluated.scripted.m run.removed.items
 
-  -- What is known of such a run where it has stopped: at a moment of it its pads counted what crossed them, also behind the fault of a task.
-  pub record IsRunAt (contents : ℕ → List ℕ) (script : List Command) (first : Edited) (run : Running S E I O L s e i o) : Type 0 where
+  -- What is known of such a run where it has stopped, at a fault or without one: at a moment of it its pads counted what crossed them, and its elements stand for what they
+  -- took, but for one that refused an item. Its tasks have the frames that they had.
+  pub record IsRunAt (contents : ℕ → List ℕ) (script : List Command) (first : Edited) (met : Option TaskFault) (run : Running S E I O L s e i o) : Type 0 where
     pub was : ScriptRun s e i o
     pub of : IsEvaluated contents script first was
     pub aside : AreSetAside of.scripted.g of.scripted.m run.removed.items
@@ -110,13 +153,15 @@ module _ {S E I O L : Type 0} {s : sources.Ghosts S} {e : elements.Ghosts E} {i 
     pub entries : run.entries.items ≡ was.entries
     pub counted : AreCounted of.scripted.m run.tasks.items
     pub each : (p : ℕ) → HasPad was.tasks p → HasPad run.tasks.items p
+    pub frames : (place : ℕ) → option_map (λ (task : Task S E I O L s e i o). frame_of task) (slice_get run.tasks.items place) ≡ option_map (λ (task : Task S E I O L s e i o). frame_of task) (slice_get was.tasks place)
+    pub parts : (part : Part E O e) → IsPartOf run.tasks.items part → e.stands part.element (behavior_at of.scripted.m part.number) (of.scripted.m.took part.number) ⊎ HasFallen of.scripted.m met part
 
 -- Where a run by turns has ended, or a task met a fault, so it is with it, where each command that acts on a pad names one. Where an element met one in an edit the
 -- command of that was done.
 pub record RunsAreEvaluated {S E I O L : Type 0} {s : sources.Ghosts S} {e : elements.Ghosts E} {i : inlets.Ghosts I L O} {o : outlets.Ghosts O L}
     (t : turns.Ghosts (Running S E I O L s e i o) RunFault) : Type 0 where
   pub ended : OweInOrder e → (order : Order) (start : ℕ) (was is : Running S E I O L s e i o) (next : Turns) (contents : ℕ → List ℕ) (script : List Command) (first : Edited)
-      → HasEnded t order start was next is → All (λ c. names_its_pad c ≡ true) script → IsRunOf contents script first was → IsRunAt contents script first is
+      → HasEnded t order start was next is → All (λ c. names_its_pad c ≡ true) script → IsRunOf contents script first was → IsRunAt contents script first None is
   pub stopped : OweInOrder e → (order : Order) (start : ℕ) (was is : Running S E I O L s e i o) (next : Turns) (contents : ℕ → List ℕ) (script : List Command) (first : Edited) (stop : Stopped)
       → HasFailed t order start was next is (AtFault stop) → All (λ c. names_its_pad c ≡ true) script → IsRunOf contents script first was
-      → IsRunAt contents script first is ⊎ EndsWithDone is.entries.items
+      → IsRunAt contents script first (Some stop.fault) is ⊎ EndsWithDone is.entries.items

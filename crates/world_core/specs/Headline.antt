@@ -13,7 +13,7 @@ use Rattle.line_read.specs.declared.request.Request.{Request}
 use Rattle.script_text.specs.declared.command.Command.{Command}
 use Rattle.world_core.specs.Evaluated.{IsEditedReport}
 use Rattle.world_core.specs.Scripts.{AnswersScript, FailsInEdit}
-use Rattle.world_core.specs.World.{IsUnwritten, IsWorldEnd, RunUnopened}
+use Rattle.world_core.specs.World.{FilesHold, IsUnwritten, IsWorldEnd, RunUnopened}
 use Rattle.world_core.specs.declared.ended.WorldEnd.{WorldEnd}
 use Rattle.run_words.specs.Said.{options_of}
 use Rattle.world_core.specs.declared.outcome.Outcome.{Outcome}
@@ -52,15 +52,15 @@ pub record StopsAtScript (request : Request) (before after : Seen) (end : WorldE
 -- A run of a script that was read, and that began, has ended. With status 0 each command was answered. Where the contents of what the sources of the
 -- line read are told, the entries answer the first commands lawfully, and the report tells the evaluation of the graph as its commands left it, but
 -- where an element met a fault in an edit.
-pub record CommandsEnded (graph : Graph) (commands : List Command) (before : Seen) (end : WorldEnd) : Type 0 where
+pub record CommandsEnded (graph : Graph) (commands : List Command) (before after : Seen) (end : WorldEnd) : Type 0 where
   pub all : end.status ≡ 0 → length end.report.entries ≡ length commands
   pub answered : (contents : ℕ → List ℕ) → WereTold (made_in graph) before contents → AnswersScript graph commands end.report.entries
-  pub told : (contents : ℕ → List ℕ) → WereTold (made_in graph) before contents → IsEditedReport contents graph commands end.report ⊎ FailsInEdit end
+  pub told : (contents : ℕ → List ℕ) → WereTold (made_in graph) before contents → IsEditedReport contents graph commands (FilesHold graph after) end.report ⊎ FailsInEdit end
 
 -- a run of a launch line with these commands, which were read, ended so
 abbrev pub EndsBy : Graph → List Command → Seen → Seen → WorldEnd → Type 0
 EndsBy graph [] before after end = IsWorldEnd graph before after end
-EndsBy graph (command ∷ commands) before after end = RunUnopened graph before after end ⊎ CommandsEnded graph (command ∷ commands) before end
+EndsBy graph (command ∷ commands) before after end = RunUnopened graph before after end ⊎ CommandsEnded graph (command ∷ commands) before after end
 
 -- a request's run ended so, behind the reading of its script
 pub record EndsRun (request : Request) (before after : Seen) (end : WorldEnd) : Type 0 where

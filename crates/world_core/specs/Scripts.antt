@@ -52,7 +52,7 @@ use Rattle.world_core.specs.Running.{KeepsElements, tells_of, view_of}
 use Rattle.world_core.specs.Watching.{IsWatched}
 use Rattle.world_core.specs.Left.{HoldNothing}
 use Rattle.world_core.specs.Stalled.{TellsTasks}
-use Rattle.world_core.specs.World.{RunUnopened}
+use Rattle.world_core.specs.World.{FilesHold, RunUnopened}
 use Rattle.world_core.specs.declared.report.Stop.{Stop}
 use Rattle.world_core.specs.declared.report.Stop.TheVariants as stops
 use Rattle.world_core.specs.declared.ended.WorldEnd.{WorldEnd}
@@ -166,12 +166,12 @@ pub record FailsInEdit (end : WorldEnd) : Type 0 where
 -- A run of a script that began has ended. With status 0 each command was answered. Where the contents of what the sources of the line read are
 -- told, and each command that acts on a pad names one, the entries answer the first commands lawfully; and the report tells the evaluation of
 -- the graph as its commands left it, but where an element met a fault in an edit.
-pub record ScriptEnded (graph : Graph) (script : List Command) (before : Seen) (end : WorldEnd) : Type 0 where
+pub record ScriptEnded (graph : Graph) (script : List Command) (before : Seen) (Holds : (ℕ → List ℕ) → Type 0) (end : WorldEnd) : Type 0 where
   pub all : end.status ≡ 0 → length end.report.entries ≡ length script
   pub answered : (contents : ℕ → List ℕ) → WereTold (made_in graph) before contents → All (λ c. names_its_pad c ≡ true) script
       → AnswersScript graph script end.report.entries
   pub told : (contents : ℕ → List ℕ) → WereTold (made_in graph) before contents → All (λ c. names_its_pad c ≡ true) script
-      → IsEditedReport contents graph script end.report ⊎ FailsInEdit end
+      → IsEditedReport contents graph script Holds end.report ⊎ FailsInEdit end
 
 abbrev pub IsScriptEnd : Graph → List Command → Seen → Seen → WorldEnd → Type 0
-IsScriptEnd graph script before after end = RunUnopened graph before after end ⊎ ScriptEnded graph script before end
+IsScriptEnd graph script before after end = RunUnopened graph before after end ⊎ ScriptEnded graph script before (FilesHold graph after) end

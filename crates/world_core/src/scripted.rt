@@ -13,7 +13,7 @@ ghost use Rattle.run_files.specs.Ends.{known_ends};
 ghost use Rattle.script_text.specs.declared.command.Command.{Command as Commands};
 ghost use Rattle.world_core.specs.Prepared.{HasRoom, IsReserved};
 ghost use Rattle.world_core.specs.Probes.{StandFor};
-ghost use Rattle.world_core.specs.Ran.{TellsEnd as TellsReport};
+ghost use Rattle.world_core.specs.Ran.{KnownHold, TellsEnd as TellsReport};
 ghost use Rattle.world_core.specs.Scripts.{AreAllPlanned, IsControlOf, IsScriptEnd, ScriptBegins, ScriptEnded, ScriptStops, TellsEnd};
 ghost use Rattle.world_core.specs.Stalled.{TellsTasks};
 ghost use Rattle.world_core.specs.World.{IsBuilt, IsRunStatus, IsUnwritten};
@@ -216,7 +216,7 @@ fn run_to_end<S: Source, K: Sink>(
     requires begun { (graph : Graphs) × (script : List Commands) × (before : Seen) × ScriptBegins S.Source K.Sink graph script run rest.items left.items before
         × HasRoom (length (made_in graph)) counts.pads.items counts.lengths.items }
     ensures ended { (graph : Graphs) (script : List Commands) (before : Seen) → ScriptBegins S.Source K.Sink graph script run rest.items left.items before
-        → result.end.status ≢ 13 → ScriptEnded graph script before result.end }
+        → result.end.status ≢ 13 → ScriptEnded graph script before (KnownHold graph (known_ends S.Source K.Sink result.ends.items)) result.end }
     ensures located { (graph : Graphs) (script : List Commands) (before : Seen) → ScriptBegins S.Source K.Sink graph script run rest.items left.items before
         → AreLocated (made_in graph) (known_ends S.Source K.Sink result.ends.items) }
     ensures statuses { IsRunStatus result.end.status }
@@ -298,7 +298,8 @@ fn run_script_opened<S: Source, K: Sink>(
         × ((before after : Seen) × GraphOpens S.Source K.Sink (made_in graph) ends.items before after) }
     ensures ended { (graph : Graphs) (script : List Commands) → IsBuilt graph
         → AreAllPlanned ⟦<MemInlet as Inlet>⟧ ⟦<MemOutlet as Outlet>⟧ graph (planned prepared.plan) prepared.control.lanes → IsControlOf graph script prepared.control
-        → (before after : Seen) → GraphOpens S.Source K.Sink (made_in graph) ends.items before after → result.end.status ≢ 13 → ScriptEnded graph script before result.end }
+        → (before after : Seen) → GraphOpens S.Source K.Sink (made_in graph) ends.items before after → result.end.status ≢ 13
+        → ScriptEnded graph script before (KnownHold graph (known_ends S.Source K.Sink result.ends.items)) result.end }
     ensures located { (graph : Graphs) (script : List Commands) → IsBuilt graph
         → AreAllPlanned ⟦<MemInlet as Inlet>⟧ ⟦<MemOutlet as Outlet>⟧ graph (planned prepared.plan) prepared.control.lanes → IsControlOf graph script prepared.control
         → (before after : Seen) → GraphOpens S.Source K.Sink (made_in graph) ends.items before after

@@ -2,7 +2,10 @@ use Rattle.std.proofs.Common.{◌∙◌, inl, inr}
 use Rattle.graph_core.specs.Graph.{made}
 use Rattle.graph_parts.proofs.Locating.{all_opened}
 use Rattle.run_files.specs.Ends.{known_ends}
-use Rattle.world_core.proofs.Closing.{ends_same, inputs_stay, others_stay}
+use Rattle.world_core.specs.Ran.{KnownHold}
+use Rattle.world_core.specs.World.{FilesHold}
+use Rattle.world_core.proofs.Closing.{ends_same, files_hold, inputs_stay, others_stay}
+use Rattle.world_core.proofs.ScriptEnds.{script_with}
 use Rattle.world_core.proofs.Unopened.{opens_line, unopened_ends, unopened_inputs, unopened_others, unopened_run}
 use Rattle.world_core.proofs.scripted.run_script.Goals as goal
 
@@ -72,10 +75,15 @@ returns-clause-ended g c =
     λ found.
     let before = g.F.Files.seen c.args.files.now in
     let mid = g.F.Files.seen c.open_all.new.files in
+    let after = g.F.Files.seen c.close_all.new.files in
     let same = c.as_slice.ensures.value ∙ c.in-Ok.ensures.reserved.openings_are in
     let ends = known_ends g.F.Src.Source g.F.Snk.Sink c.in-Ok-open_all.ends.items in
-    inr (c.run_script_opened-end.ensures.ended c.args.graph c.args.commands c.requires.built c.in-Ok.ensures.planned c.in-Ok.ensures.control before mid
-    (opens_line c.args.graph c.as_slice.result.now before mid same ends c.in-Ok-open_all.ensures.opened) found)
+    let known = known_ends g.F.Src.Source g.F.Snk.Sink c.run_script_opened-end.result.ends.items in
+    let opens = opens_line c.args.graph c.as_slice.result.now before mid same ends c.in-Ok-open_all.ensures.opened in
+    let located = c.run_script_opened-end.ensures.located c.args.graph c.args.commands c.requires.built c.in-Ok.ensures.planned c.in-Ok.ensures.control before mid opens in
+    let hold = files_hold c.requires.built.tree c.args.graph c.requires.built.line known located before mid after ends opens c.close_all.ensures.alone in
+    inr (script_with c.args.graph c.args.commands before (KnownHold c.args.graph known) (FilesHold c.args.graph after) c.run_script_opened-end.result.end hold
+    (c.run_script_opened-end.ensures.ended c.args.graph c.args.commands c.requires.built c.in-Ok.ensures.planned c.in-Ok.ensures.control before mid opens found))
 
 pub returns-clause-given_back : goal.returns-clause-given_back
 returns-clause-given_back g c =
