@@ -2,7 +2,7 @@
 use Rattle.std.proofs.Common.{◌≡◌, ℕ, Bool, true, false, List, [], ◌∷◌, ◌++◌, refl, sym, ap, ◌∙◌, append-nil, Result, Ok}
 use Rattle.gst_caps.specs.declared.caps.Caps.{Caps}
 use Rattle.flow_model.specs.Item.{Item, Ev, FlushStop, Eos, is_flush_stop, is_eos}
-use Rattle.flow_model.specs.Call.{Call, Feed, Act, Drain, Set, Filter, Allowed, items}
+use Rattle.flow_model.specs.Call.{Call, Feed, Act, Drain, Set, Filter, Allowed, Drops, items}
 use Rattle.flow_model.specs.Rule.{Fed}
 use Rattle.el_basic.specs.declared.caps_filter.CapsFilter.{CapsFilter}
 use Rattle.el_basic.specs.Filters.{filter_in, filter_answer, filters}
@@ -18,6 +18,7 @@ filter_fed first (Feed y ∷ calls) x = filter_fed first calls x
 filter_fed first (Act Drain ∷ calls) x = filter_fed first calls x
 filter_fed first (Act (Set (Filter caps)) ∷ calls) x = filter_fed caps calls x
 filter_fed first (Act (Set (Allowed caps)) ∷ calls) x = filter_fed first calls x
+filter_fed first (Act (Set (Drops drops)) ∷ calls) x = filter_fed first calls x
 
 pub filter_drained : (first : Caps) (calls : List Call) → filter_in first (calls ++ Act Drain ∷ []) ≡ filter_in first calls
 filter_drained first [] = refl
@@ -25,6 +26,7 @@ filter_drained first (Feed y ∷ calls) = filter_drained first calls
 filter_drained first (Act Drain ∷ calls) = filter_drained first calls
 filter_drained first (Act (Set (Filter caps)) ∷ calls) = filter_drained caps calls
 filter_drained first (Act (Set (Allowed caps)) ∷ calls) = filter_drained first calls
+filter_drained first (Act (Set (Drops drops)) ∷ calls) = filter_drained first calls
 
 pub filter_set : (first : Caps) (calls : List Call) (caps : Caps) → filter_in first (calls ++ Act (Set (Filter caps)) ∷ []) ≡ caps
 filter_set first [] caps = refl
@@ -32,6 +34,7 @@ filter_set first (Feed y ∷ calls) caps = filter_set first calls caps
 filter_set first (Act Drain ∷ calls) caps = filter_set first calls caps
 filter_set first (Act (Set (Filter old)) ∷ calls) caps = filter_set old calls caps
 filter_set first (Act (Set (Allowed old)) ∷ calls) caps = filter_set first calls caps
+filter_set first (Act (Set (Drops drops)) ∷ calls) caps = filter_set first calls caps
 
 -- the answer of the rule, by what the element knows
 answer_known : (first : Caps) (element : CapsFilter) (calls : List Call) (put : List Item) (x : Item) (r : Result (List Item) _) → IsFilteredBy first element calls put

@@ -6,7 +6,7 @@ use Rattle.gst_caps.specs.declared.caps.Caps.{Caps}
 use Rattle.gst_caps.specs.declared.caps.Caps.TheVariants.{Any, Of}
 use Rattle.gst_value.specs.declared.one.One.{One}
 use Rattle.flow_model.specs.Item.{Item, Buf, Ev, NewCaps}
-use Rattle.flow_model.specs.Call.{Call, Feed, Act, Drain, Set, Filter, Allowed, items}
+use Rattle.flow_model.specs.Call.{Call, Feed, Act, Drain, Set, Filter, Allowed, Drops, items}
 use Rattle.flow_model.specs.Rule.{Fault, NotNegotiated, Response}
 use Rattle.flow_model.specs.CapsInForce.{caps_in_force}
 
@@ -17,6 +17,7 @@ filter_in filter (Feed x ∷ calls) = filter_in filter calls
 filter_in filter (Act Drain ∷ calls) = filter_in filter calls
 filter_in filter (Act (Set (Filter caps)) ∷ calls) = filter_in caps calls
 filter_in filter (Act (Set (Allowed caps)) ∷ calls) = filter_in filter calls
+filter_in filter (Act (Set (Drops drops)) ∷ calls) = filter_in filter calls
 
 -- whether a filter takes a buffer: it accepts its caps, and only all caps take one without
 abbrev pub takes_buffer : Caps → Option (Description One) → Bool

@@ -9,6 +9,7 @@ ghost use Rattle.flow_model.specs.Rule.{owed_for, only, passes, single};
 ghost use Rattle.flow_model.specs.Feeding.{flow_behind, passed, on_pad};
 ghost use Rattle.el_basic.specs.Spread.{Spread, has_ended, is_gap, pad_count, pad_list, on_pads};
 
+use crate::events::{is_gap, put_events};
 use flow_model::ElementFault;
 use gst_item::{Event, Flow, Item, Out, Outs, Sticky};
 use gst_value::OutOfMemory;
@@ -164,37 +165,6 @@ impl Tee {
         self.sticky.set(copy);
         Ok(())
     }
-}
-
-/// Whether an event is a GAP.
-fn is_gap(event: &Event) -> bool
-    ensures { result ≡ is_gap event.now }
-{
-    matches!(event, Event::Gap { .. })
-}
-
-/// Puts copies of the events in force out on a source pad, in the order STREAM_START, CAPS, SEGMENT, TAG, EOS.
-fn put_events(alloc: Global, pad: u32, sticky: &Sticky, out: &mut Outs) -> Result<(), OutOfMemory>
-    ensures ok { OnOk result ((h : List Item) → sticky.now ≡ in_force h → out.new ≡ out.old ++ on_pad pad (stickies h)) }
-    ensures err { OnErr result (out.new ≡ out.old) }
-{
-    let events = sticky.list(alloc)?;
-    let mut queue = events_on(alloc, pad, events.as_slice())?;
-    out.pour(alloc, &mut queue)
-}
-
-/// Copies of events, for a source pad.
-fn events_on(alloc: Global, pad: u32, events: &[Event]) -> Result<VecDeque<Out>, OutOfMemory>
-    ensures { IfOk result (λ made. made.items ≡ on_pad pad (map Ev events.now)) }
-{
-    let mut queue = VecDeque::new(alloc);
-    for event in events {
-        queue.push_back(Out {
-            pad,
-            item: Item::Event(event.copy(alloc)?),
-        })?;
-    }
-    Ok(queue)
 }
 
 /// Puts an item out on each of the first `pads` source pads: copies, and the item itself on the last one. Where there

@@ -8,7 +8,7 @@ use Rattle.gst_value.specs.declared.one.One.{One}
 use Rattle.gst_item.proofs.Kept.{latest_push, since_push}
 use Rattle.gst_item.specs.Sticky.{since_flush_stop}
 use Rattle.flow_model.specs.Item.{Item, Ev, FlushStop, Eos, is_caps, is_flush_stop, is_eos, body_of}
-use Rattle.flow_model.specs.Call.{Call, Feed, Act, Drain, Set, Filter, Allowed, items}
+use Rattle.flow_model.specs.Call.{Call, Feed, Act, Drain, Set, Filter, Allowed, Drops, items}
 use Rattle.flow_model.specs.Rule.{Fed}
 use Rattle.flow_model.specs.Feeding.{next_owed, IsFaultOf}
 use Rattle.flow_model.specs.declared.fault.ElementFault.{ElementFault}
@@ -29,6 +29,7 @@ allowed_more first (Feed x ∷ calls) more = allowed_more first calls more
 allowed_more first (Act Drain ∷ calls) more = allowed_more first calls more
 allowed_more first (Act (Set (Filter caps)) ∷ calls) more = allowed_more first calls more
 allowed_more first (Act (Set (Allowed caps)) ∷ calls) more = allowed_more caps calls more
+allowed_more first (Act (Set (Drops drops)) ∷ calls) more = allowed_more first calls more
 
 caps_push : (h : List Item) (x : Item) → caps_in_force (h ++ x ∷ []) ≡ caps_behind (caps_in_force h) x
 caps_push h x = rw (latest_push is_caps h x) (caps_by x h)

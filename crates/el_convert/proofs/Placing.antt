@@ -8,7 +8,7 @@ use Rattle.gst_caps.specs.declared.caps.Caps.{Caps}
 use Rattle.gst_value.specs.declared.one.One.{One}
 use Rattle.flow_model.specs.declared.fault.StreamKind.TheVariants.{SplitFrame}
 use Rattle.flow_model.specs.Item.{Item, Buf, Buffer, Ev, StreamStart, NewCaps, NewSegment, Tag, Gap, FlushStop, Eos, is_flush_stop}
-use Rattle.flow_model.specs.Call.{Call, Feed, Act, Drain, Set, Filter, Allowed, items}
+use Rattle.flow_model.specs.Call.{Call, Feed, Act, Drain, Set, Setting, Filter, Allowed, Drops, items}
 use Rattle.flow_model.specs.Rule.{Response, Fault, NotNegotiated, BadStream, TooLong, Fed, unfed, responded, flushed, fed_item, drained, called, all_called, owed_for}
 use Rattle.flow_model.specs.Feeding.{next_owed}
 use Rattle.flow_model.specs.CapsInForce.{caps_in_force}
@@ -102,6 +102,7 @@ not_yet first s (Act Drain ∷ calls) n allowed before =
     let more = drained_more first s in
     not_yet first (called (converts first) s (Act Drain)) calls n allowed (omega (arith, more, before))
 not_yet first s (Act (Set (Filter caps)) ∷ calls) n allowed before = not_yet first (called (converts first) s (Act (Set (Filter caps)))) calls n allowed before
+not_yet first s (Act (Set (Drops drops)) ∷ calls) n allowed before = not_yet first (called (converts first) s (Act (Set (Drops drops)))) calls n allowed before
 not_yet first s (Act (Set (Allowed caps)) ∷ calls) n allowed before =
     before_place allowed caps _ (settings_in first (called (converts first) s (Act (Set (Allowed caps)))) calls) n (omega (arith, before))
 
@@ -213,15 +214,19 @@ beside_set first settings s t caps calls p = record {
       ∙ ap (λ a. allowed_at a rest n) (sym (allowed_more first s.given (Act (Set (Allowed caps)) ∷ [])));
 }
 
-beside_filter : (first : Caps) (settings : List (ℕ × Caps)) (s t : Fed) (caps : Caps) (calls : List Call) → AreBeside first settings s t (Act (Set (Filter caps)) ∷ calls)
-    → AreBeside first settings (called (converts first) s (Act (Set (Filter caps)))) t calls
-beside_filter first settings s t caps calls p = record {
+-- and so is one of another property
+beside_other : (first : Caps) (settings : List (ℕ × Caps)) (s t : Fed) (setting : Setting) (calls : List Call) → AreBeside first settings s t (Act (Set setting) ∷ calls)
+    → ((place : ℕ) → setting_at place (Act (Set setting)) ≡ []) → allowed_in first (s.given ++ Act (Set setting) ∷ []) ≡ allowed_in first s.given
+    → AreBeside first settings (called (converts first) s (Act (Set setting))) t calls
+beside_other first settings s t setting calls p none same = record {
   out = p.out;
   over = p.over;
-  given = items_act s.given (Set (Filter caps)) ∙ p.given;
+  given = items_act s.given (Set setting) ∙ p.given;
   ahead = λ n within.
+      let rest = settings_in first (called (converts first) s (Act (Set setting))) calls in
       p.ahead n within
-      ∙ ap (λ a. allowed_at a (settings_in first (called (converts first) s (Act (Set (Filter caps)))) calls) n) (sym (allowed_more first s.given (Act (Set (Filter caps)) ∷ [])));
+      ∙ ap (λ ms. allowed_at (allowed_in first s.given) (ms ++ rest) n) (none _)
+      ∙ ap (λ a. allowed_at a rest n) (sym same);
 }
 
 -- behind calls of which no item is a fault
@@ -233,7 +238,11 @@ beside_all first settings s t (Feed x ∷ calls) p takes =
 beside_all first settings s t (Act Drain ∷ calls) p takes =
     beside_all first settings (called (converts first) s (Act Drain)) (called (converts_placed first settings) t (Act Drain)) calls (beside_drained first settings s t calls p) takes
 beside_all first settings s t (Act (Set (Filter caps)) ∷ calls) p takes =
-    beside_all first settings (called (converts first) s (Act (Set (Filter caps)))) t calls (beside_filter first settings s t caps calls p) takes
+    beside_all first settings (called (converts first) s (Act (Set (Filter caps)))) t calls
+    (beside_other first settings s t (Filter caps) calls p (λ place. refl) (allowed_more first s.given (Act (Set (Filter caps)) ∷ []))) takes
+beside_all first settings s t (Act (Set (Drops drops)) ∷ calls) p takes =
+    beside_all first settings (called (converts first) s (Act (Set (Drops drops)))) t calls
+    (beside_other first settings s t (Drops drops) calls p (λ place. refl) (allowed_more first s.given (Act (Set (Drops drops)) ∷ []))) takes
 beside_all first settings s t (Act (Set (Allowed caps)) ∷ calls) p takes =
     beside_all first settings (called (converts first) s (Act (Set (Allowed caps)))) t calls (beside_set first settings s t caps calls p) takes
 

@@ -7,7 +7,7 @@ use Rattle.gst_value.specs.declared.one.One.{One}
 use Rattle.flow_model.specs.declared.fault.StreamKind.TheVariants.{SplitFrame}
 use Rattle.audio_info.specs.Packing.{sample_width}
 use Rattle.flow_model.specs.Item.{Item, Buffer, Buf, Ev, NewCaps, body_of}
-use Rattle.flow_model.specs.Call.{Call, Feed, Act, Drain, Set, Filter, Allowed, items}
+use Rattle.flow_model.specs.Call.{Call, Feed, Act, Drain, Set, Filter, Allowed, Drops, items}
 use Rattle.flow_model.specs.Rule.{Fed, Fault, NotNegotiated, BadStream, TooLong, Response}
 use Rattle.flow_model.specs.CapsInForce.{caps_in_force, caps_behind}
 use Rattle.flow_model.specs.Owed.{answered}
@@ -25,6 +25,7 @@ allowed_in allowed (Feed x ∷ calls) = allowed_in allowed calls
 allowed_in allowed (Act Drain ∷ calls) = allowed_in allowed calls
 allowed_in allowed (Act (Set (Filter caps)) ∷ calls) = allowed_in allowed calls
 allowed_in allowed (Act (Set (Allowed caps)) ∷ calls) = allowed_in caps calls
+allowed_in allowed (Act (Set (Drops drops)) ∷ calls) = allowed_in allowed calls
 
 -- What the rule looks back at: the allowed caps, the caps of the stream, the choice that was put out last, and the
 -- bytes that came since the last FLUSH_STOP.

@@ -13,7 +13,7 @@ use Rattle.el_settings.specs.declared.settings.Settings.{Settings}
 use Rattle.el_settings.specs.declared.settings.Settings.TheVariants as settings
 use Rattle.el_set.proofs.Ends.{IsPassing, passes_is_passing, filters_is_passing}
 use Rattle.el_set.proofs.Ending.{OwesEos, IsEnding}
-use Rattle.el_set.proofs.Rules.{converts_ending, recodes_ending, raw_ending, splits_ending, wav_ending, encodes_ending, passing as passed_whole}
+use Rattle.el_set.proofs.Rules.{valves_ending, converts_ending, recodes_ending, raw_ending, splits_ending, wav_ending, encodes_ending, passing as passed_whole}
 
 -- a rule that passes or refuses
 passing_ending : (respond : Response) → IsPassing respond → IsEnding respond
@@ -25,6 +25,7 @@ passing_ending respond passing fed x h = go (respond fed x) (passing fed x)
 
 pub response_ending : (s : Settings) → IsEnding (response_of s)
 response_ending (settings.CapsFilter s) = passing_ending _ (filters_is_passing s.caps)
+response_ending (settings.Valve s) = valves_ending s.drops
 response_ending (settings.AudioConvert s) = converts_ending s.allowed
 response_ending (settings.Law kind) = recodes_ending kind
 response_ending (settings.RawAudioParse info) = raw_ending info
@@ -36,6 +37,7 @@ response_ending _ = passing_ending passes passes_is_passing
 pub is_ending : (respond : Response) (element : FilterElement) (calls : List Call) (put : List Item) → Stands respond element calls put → IsEnding respond
 is_ending respond (elements.Identity identity) calls put s = rw s.0 (passing_ending passes passes_is_passing)
 is_ending respond (elements.CapsFilter filter) calls put s = rw s.1 (passing_ending _ (filters_is_passing s.0))
+is_ending respond (elements.Valve valve) calls put s = rw s.1 (valves_ending s.0)
 is_ending respond (elements.Convert convert) calls put s = rw s.1 (converts_ending s.0)
 is_ending respond (elements.Law law) calls put s = rw s.1 (recodes_ending s.0)
 is_ending respond (elements.RawParse parser) calls put s = rw s.1 (raw_ending s.0)
@@ -48,6 +50,7 @@ pub counts_or_meets : (respond : Response) (element : FilterElement) (calls : Li
     → (put ≡ counted (items calls)) ⊎ MeetsNone respond calls
 counts_or_meets respond (elements.Identity identity) calls put s = inl s.1.all
 counts_or_meets respond (elements.CapsFilter filter) calls put s = inl s.2.all
+counts_or_meets respond (elements.Valve valve) calls put s = inr s.3
 counts_or_meets respond (elements.Convert convert) calls put s = inr s.3
 counts_or_meets respond (elements.Law law) calls put s = inr s.3
 counts_or_meets respond (elements.RawParse parser) calls put s = inr s.3

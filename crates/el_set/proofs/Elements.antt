@@ -24,7 +24,7 @@ use Rattle.el_set.specs.Stands.{Stands, PutsOut, MeetsNone}
 use Rattle.el_set.specs.Ends.{MeetsNoFault, EndsWithEos}
 use Rattle.el_set.proofs.Ends.{counted_eos, counted_eos_since, sections_plain, IsPassing, passes_is_passing, filters_is_passing, passing_ends, passing_meets_no_fault}
 use Rattle.el_set.proofs.Ending.{IsEnding, ending_eos, ending_sections, ending_among, ending_ends, met_none}
-use Rattle.el_set.proofs.Rules.{converts_ending, recodes_ending, raw_ending, splits_ending, wav_ending, encodes_ending}
+use Rattle.el_set.proofs.Rules.{valves_ending, converts_ending, recodes_ending, raw_ending, splits_ending, wav_ending, encodes_ending}
 use Rattle.flow_model.proofs.Items.{items_feeds, none_owed as drained_none}
 use Rattle.gst_item.specs.Item.{has_item}
 
@@ -32,6 +32,7 @@ use Rattle.gst_item.specs.Item.{has_item}
 pub elements_owe : (respond : Response) (element : FilterElement) (calls : List Call) (put : List Item) → Stands respond element calls put → put ≡ owed_for respond calls
 elements_owe respond (elements.Identity identity) calls put s = rw s.0 s.1.owed
 elements_owe respond (elements.CapsFilter filter) calls put s = rw s.1 s.2.owed
+elements_owe respond (elements.Valve valve) calls put s = rw s.1 s.2.owed
 elements_owe respond (elements.Convert convert) calls put s = rw s.1 s.2.owed
 elements_owe respond (elements.Law law) calls put s = rw s.1 s.2.owed
 elements_owe respond (elements.RawParse parser) calls put s = rw s.1 s.2.owed
@@ -43,6 +44,7 @@ pub sections_end_by_eos : (respond : Response) (element : FilterElement) (calls 
     → (all_called respond unfed calls).over ≡ has_eos calls
 sections_end_by_eos respond (elements.Identity identity) calls put s = rw s.0 (s.1.over ∙ sym s.1.eos)
 sections_end_by_eos respond (elements.CapsFilter filter) calls put s = rw s.1 (s.2.over ∙ sym s.2.eos)
+sections_end_by_eos respond (elements.Valve valve) calls put s = rw s.1 (s.2.over ∙ sym s.2.eos)
 sections_end_by_eos respond (elements.Convert convert) calls put s = rw s.1 (s.2.over ∙ sym s.2.eos)
 sections_end_by_eos respond (elements.Law law) calls put s = rw s.1 (s.2.over ∙ sym s.2.eos)
 sections_end_by_eos respond (elements.RawParse parser) calls put s = rw s.1 (s.2.over ∙ sym s.2.eos)
@@ -67,6 +69,7 @@ record PutsOwed (respond : Response) (calls : List Call) : Type 0 where
 puts_by : (respond : Response) (element : FilterElement) (calls : List Call) (put : List Item) → Stands respond element calls put → PutsCounted respond calls put ⊎ PutsOwed respond calls
 puts_by respond (elements.Identity identity) calls put s = inl (record { passing = rw s.0 passes_is_passing; counts = s.1.all })
 puts_by respond (elements.CapsFilter filter) calls put s = inl (record { passing = rw s.1 (filters_is_passing s.0); counts = s.2.all })
+puts_by respond (elements.Valve valve) calls put s = inr (record { ending = rw s.1 (valves_ending s.0); none = s.3 })
 puts_by respond (elements.Convert convert) calls put s = inr (record { ending = rw s.1 (converts_ending s.0); none = s.3 })
 puts_by respond (elements.Law law) calls put s = inr (record { ending = rw s.1 (recodes_ending s.0); none = s.3 })
 puts_by respond (elements.RawParse parser) calls put s = inr (record { ending = rw s.1 (raw_ending s.0); none = s.3 })

@@ -1,5 +1,5 @@
 -- The elements that follow a rule of their own crate, one kind as the other.
-use Rattle.std.proofs.Common.{◌≡◌, ◌≢◌, ℕ, Bool, true, false, if◌then◌else◌, List, [], ◌∷◌, ◌++◌, refl, sym, ap, ◌∙◌, subst, Result, Ok, Err, IfOk, IfErr, OnOk, OnErr}
+use Rattle.std.proofs.Common.{◌≡◌, ◌≢◌, ℕ, Bool, true, false, if◌then◌else◌, List, [], ◌∷◌, ◌++◌, refl, sym, ap, ◌∙◌, subst, Result, Ok, Err, IsOk, IfOk, IfErr, OnOk, OnErr}
 use Rattle.gst_caps.specs.declared.caps.Caps.{Caps}
 use Rattle.gst_item.specs.declared.flow.Flow.{Flow}
 use Rattle.gst_item.specs.declared.out.Out.{Out}
@@ -10,6 +10,10 @@ use Rattle.flow_model.specs.Item.{Item, Ev, FlushStop, Eos}
 use Rattle.flow_model.specs.Call.{Call, Feed, Act, Drain}
 use Rattle.flow_model.specs.Rule.{Response, Fault, Fed, unfed, all_called}
 use Rattle.flow_model.specs.Feeding.{next_owed, flow_behind, IsFaultOf}
+use Rattle.el_basic.specs.declared.valve.Valve.{Valve}
+use Rattle.el_basic.specs.Valves.{valves}
+use Rattle.el_basic.specs.Valved.{Valved}
+use Rattle.el_basic.specs.Valved as valve_puts
 use Rattle.el_convert.specs.declared.convert.Convert.{Convert}
 use Rattle.el_convert.specs.Converts.{converts}
 use Rattle.el_convert.specs.Converted.{IsConverted}
@@ -52,14 +56,18 @@ more_followed rule Told old new call more owed told respond calls put s =
 
 -- no FLUSH_STOP is a fault
 abbrev IsCalm : Response → Type 0
-IsCalm respond = (s : Fed) (number : ℕ) → respond s (Ev (FlushStop number)) ≡ Ok (Ev (FlushStop number) ∷ [])
+IsCalm respond = (s : Fed) (number : ℕ) → IsOk (respond s (Ev (FlushStop number)))
+
+calm_free : (r : Result (List Item) Fault) (fault : Fault) → IsOk r → r ≢ Err fault
+calm_free (Ok ys) fault calm same = cc
+calm_free (Err other) fault calm same = absurd (cc)
 
 flush_free : (respond : Response) → IsCalm respond → (calls : List Call) (number : ℕ) (fault : Fault) → owed_at respond calls (Feed (Ev (FlushStop number))) ≢ Err fault
 flush_free respond calm calls number fault = go (all_called respond unfed calls) (all_called respond unfed calls).over
   where
     go : (s : Fed) (over : Bool) → (if over then Ok [] else respond s (Ev (FlushStop number))) ≢ Err fault
     go s true same = ok_no_fault [] (Ok []) refl fault same
-    go s false same = ok_no_fault (Ev (FlushStop number) ∷ []) (respond s (Ev (FlushStop number))) (calm s number) fault same
+    go s false same = calm_free (respond s (Ev (FlushStop number))) fault (calm s number) same
 
 pub flush_followed : {X E : Type 0} (rule : X → Response) (Told : X → E → List Call → List Item → Type 0) (old new : E) → ((x : X) → IsCalm (rule x))
     → ((x : X) (calls : List Call) (put : List Item) (number : ℕ) → Told x old calls put → Told x new (calls ++ Feed (Ev (FlushStop number)) ∷ []) (put ++ Ev (FlushStop number) ∷ []))
@@ -71,6 +79,9 @@ flush_followed rule Told old new calm told respond calls put number s = (
   told s.0 calls put number s.2,
   none_more respond calls (Feed (Ev (FlushStop number))) s.3 (flush_free respond (subst IsCalm (sym s.1) (calm s.0)) calls number),
 )
+
+pub valves_calm : (first : Bool) → IsCalm (valves first)
+valves_calm first s number = refl
 
 pub converts_calm : (first : Caps) → IsCalm (converts first)
 converts_calm first s number = refl
@@ -106,6 +117,12 @@ pub same_as : {X E : Type 0} (rule : X → Response) (Told : X → E → List Ca
 same_as rule Told old new is respond calls put s = (s.0, s.1, subst (λ e. Told s.0 e calls put) (sym is) s.2, s.3)
 
 -- what each puts out for a call
+pub valve_put : (element : FilterElement) (old new : Valve) (call : Call) (out out' : List Out) → element ≡ elements.Valve old
+    → valve_puts.Puts old new call out out' → PutsOut element (elements.Valve new) call out out'
+valve_put element old new call out out' is p =
+    let both = more_followed valves Valved old new call p.more p.owed p.stands in
+    rw is (record { more = p.more; outs = p.outs; owed = λ respond calls put s. (both respond calls put s).0; stands = λ respond calls put s. (both respond calls put s).1 })
+
 pub convert_put : (element : FilterElement) (old new : Convert) (call : Call) (out out' : List Out) → element ≡ elements.Convert old
     → convert_puts.Puts old new call out out' → PutsOut element (elements.Convert new) call out out'
 convert_put element old new call out out' is p =

@@ -9,6 +9,8 @@ use Rattle.flow_model.specs.Call.{Call, items}
 use Rattle.flow_model.specs.Rule.{Fault, Fed, unfed, all_called}
 use Rattle.flow_model.specs.Feeding.{next_owed}
 use Rattle.gst_caps.specs.Same.{same_caps}
+use Rattle.el_basic.specs.Valves.{drops_in, dropped_lately, again, goes_out, valves}
+use Rattle.el_basic.proofs.Again.{AreInner as AgainInner, again_inner}
 use Rattle.el_convert.specs.Choice.{choice}
 use Rattle.el_convert.specs.Converts as conv
 use Rattle.flow_model.specs.Looking.{bytes_since_flush}
@@ -35,6 +37,25 @@ passing x f = go (is_eos x) refl
     go : (e : Bool) → is_eos x ≡ e → EndsAs x (x ∷ [])
     go true e = record { inner = []; all = rw e refl; quiet = tt }
     go false e = record { inner = x ∷ []; all = rw e refl; quiet = (f, e, tt) }
+
+-- what goes out behind an inner list
+behind_inner : (x : Item) (ys : List Item) → is_flush_stop x ≡ false → AreInner ys → EndsAs x (ys ++ x ∷ [])
+behind_inner x ys f h =
+    let e = passing x f in
+    record { inner = ys ++ e.inner; all = ap (λ zs. ys ++ zs) e.all ∙ sym (append_assoc ys e.inner (eos_of x)); quiet = inner_append ys e.inner h e.quiet }
+
+-- a valve
+as_inner : (xs : List Item) → AgainInner xs → AreInner xs
+as_inner [] h = tt
+as_inner (x ∷ xs) h = (h.0, h.1, as_inner xs h.2)
+
+valve_owes : (drops lately : Bool) (events : List Item) (x : Item) → is_flush_stop x ≡ false → AreInner events → EndsAs x (goes_out drops lately events x)
+valve_owes true lately events x f h = record { inner = []; all = refl; quiet = tt }
+valve_owes false true events x f h = behind_inner x events f h
+valve_owes false false events x f h = passing x f
+
+pub valves_ending : (first : Bool) → IsEnding (valves first)
+valves_ending first s x f = valve_owes (drops_in first s.given) (dropped_lately first s.given) (again (items s.given)) x f (as_inner (again (items s.given)) (again_inner (items s.given)))
 
 -- inner items
 inner_owed : (x : Item) → is_eos x ≡ false → (ys : List Item) → AreInner ys → EndsAs x ys

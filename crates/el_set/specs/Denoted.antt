@@ -2,6 +2,7 @@
 use Rattle.flow_model.specs.Rule.{Response, Rule, only, passes, single, Answers}
 use Rattle.flow_model.specs.Feeding.{next_owed}
 use Rattle.el_basic.specs.Filters.{filters}
+use Rattle.el_basic.specs.Valves.{valves}
 use Rattle.el_convert.specs.Converts.{converts}
 use Rattle.el_join.specs.Concats.{concat_rule, concat_answers}
 use Rattle.el_law.specs.Laws.{recodes}
@@ -12,11 +13,12 @@ use Rattle.el_parse.specs.Splits.{splits}
 use Rattle.el_wav.specs.WavParse.{parses as parses_wav}
 use Rattle.el_wavenc.specs.Encodes.{encodes}
 use Rattle.el_settings.specs.declared.settings.Settings.{Settings}
-use Rattle.el_settings.specs.declared.settings.Settings.TheVariants.{FileSrc, RampTestSrc, Identity, CapsFilter, Queue, Tee, AudioConvert, Law, RawAudioParse, AudioBufferSplit, WavParse, WavEnc, Interleave, Concat, FileSink, FakeSink}
+use Rattle.el_settings.specs.declared.settings.Settings.TheVariants.{FileSrc, RampTestSrc, Identity, CapsFilter, Valve, Queue, Tee, AudioConvert, Law, RawAudioParse, AudioBufferSplit, WavParse, WavEnc, Interleave, Concat, FileSink, FakeSink}
 
 -- the rule of an element with one sink pad; one with several sink pads is not asked
 abbrev pub response_of : Settings → Response
 response_of (CapsFilter s) = filters s.caps
+response_of (Valve s) = valves s.drops
 response_of (FileSrc s) = passes
 response_of (RampTestSrc s) = passes
 response_of Identity = passes

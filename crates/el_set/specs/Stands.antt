@@ -11,6 +11,8 @@ use Rattle.flow_model.specs.Puts.{PutsBy}
 use Rattle.el_basic.specs.Passed.{Passed, has_ended}
 use Rattle.el_basic.specs.Filters.{filters}
 use Rattle.el_basic.specs.Filtered.{IsFilteredBy}
+use Rattle.el_basic.specs.Valves.{valves}
+use Rattle.el_basic.specs.Valved.{Valved}
 use Rattle.el_convert.specs.Converts.{converts}
 use Rattle.el_convert.specs.Converted.{IsConverted}
 use Rattle.el_law.specs.Laws.{recodes}
@@ -23,7 +25,7 @@ use Rattle.el_wav.specs.WavParse.{parses as parses_wav, Parsed as WavParsed}
 use Rattle.el_wavenc.specs.Encodes.{encodes}
 use Rattle.el_wavenc.specs.Encoded.{Encoded}
 use Rattle.el_set.specs.declared.filter.FilterElement.{FilterElement}
-use Rattle.el_set.specs.declared.filter.FilterElement.TheVariants.{Identity, CapsFilter, Convert, Law, RawParse, Split, WavParse, WavEnc}
+use Rattle.el_set.specs.declared.filter.FilterElement.TheVariants.{Identity, CapsFilter, Valve, Convert, Law, RawParse, Split, WavParse, WavEnc}
 
 -- at none of the calls the rule meets a fault
 abbrev pub MeetsNone : Response → List Call → Type 0
@@ -37,6 +39,7 @@ Follows {X} rule Told respond element calls put = (x : X) × (respond ≡ rule x
 abbrev pub Stands : Response → FilterElement → List Call → List Item → Type 0
 Stands respond (Identity identity) calls put = (respond ≡ passes) × Passed identity calls put
 Stands respond (CapsFilter filter) calls put = (first : Caps) × (respond ≡ filters first) × IsFilteredBy first filter calls put
+Stands respond (Valve valve) calls put = Follows valves Valved respond valve calls put
 Stands respond (Convert convert) calls put = Follows converts IsConverted respond convert calls put
 Stands respond (Law law) calls put = Follows recodes Recoded respond law calls put
 Stands respond (RawParse parser) calls put = Follows parses_raw RawParsed respond parser calls put

@@ -5,7 +5,7 @@ ghost use Rattle.flow_model.specs.Call.{Call, Feed, Act, Drain};
 ghost use Rattle.flow_model.specs.Rule.{Response};
 ghost use Rattle.flow_model.specs.Feeding.{flow_behind, next_owed, IsFaultOf};
 
-use el_basic::{CapsFilter, Identity};
+use el_basic::{CapsFilter, Identity, Valve};
 use el_convert::Convert;
 use el_law::Law;
 use el_parse::{RawParse, Split};
@@ -21,6 +21,7 @@ use std::alloc::Global;
 pub enum FilterElement {
     Identity(Identity),
     CapsFilter(CapsFilter),
+    Valve(Valve),
     Convert(Convert),
     Law(Law),
     RawParse(RawParse),
@@ -58,6 +59,7 @@ impl FilterElement {
         match self {
             FilterElement::Identity(identity) => identity.feed(alloc, pad, item, out),
             FilterElement::CapsFilter(filter) => filter.feed(alloc, pad, item, out),
+            FilterElement::Valve(valve) => valve.feed(alloc, pad, item, out),
             FilterElement::Convert(convert) => convert.feed(alloc, pad, item, out),
             FilterElement::Law(law) => law.feed(alloc, pad, item, out),
             FilterElement::RawParse(parser) => parser.feed(alloc, pad, item, out),
@@ -75,6 +77,7 @@ impl FilterElement {
         match self {
             FilterElement::Identity(identity) => identity.flush(),
             FilterElement::CapsFilter(filter) => filter.flush(),
+            FilterElement::Valve(valve) => valve.flush(),
             FilterElement::Convert(convert) => convert.flush(),
             FilterElement::Law(law) => law.flush(),
             FilterElement::RawParse(parser) => parser.flush(),
@@ -96,6 +99,7 @@ impl FilterElement {
         match self {
             FilterElement::Identity(identity) => identity.drain(alloc, out),
             FilterElement::CapsFilter(filter) => filter.drain(alloc, out),
+            FilterElement::Valve(valve) => valve.drain(alloc, out),
             FilterElement::Convert(convert) => convert.drain(alloc, out),
             FilterElement::Law(law) => law.drain(alloc, out),
             FilterElement::RawParse(parser) => parser.drain(alloc, out),
@@ -123,6 +127,7 @@ impl FilterElement {
         match self {
             FilterElement::Identity(identity) => Ok(FilterElement::Identity(identity.copy(alloc)?)),
             FilterElement::CapsFilter(filter) => Ok(FilterElement::CapsFilter(filter.copy(alloc)?)),
+            FilterElement::Valve(valve) => Ok(FilterElement::Valve(valve.copy(alloc)?)),
             FilterElement::Convert(convert) => Ok(FilterElement::Convert(convert.copy(alloc)?)),
             FilterElement::Law(law) => Ok(FilterElement::Law(law.copy(alloc)?)),
             FilterElement::RawParse(parser) => Ok(FilterElement::RawParse(parser.copy(alloc)?)),

@@ -7,7 +7,7 @@ use crate::filter::FilterElement;
 use crate::join::JoinElement;
 use crate::sink::SinkElement;
 use crate::source::SourceElement;
-use el_basic::{CapsFilter, Identity, Tee};
+use el_basic::{CapsFilter, Identity, Tee, Valve};
 use el_convert::Convert;
 use el_join::Concat;
 use el_law::Law;
@@ -33,6 +33,7 @@ pub fn filter_of(alloc: Global, settings: &Settings) -> Result<Option<FilterElem
             let caps = settings.caps.copy(alloc)?;
             Ok(Some(FilterElement::CapsFilter(CapsFilter::new(caps))))
         }
+        Settings::Valve(settings) => Ok(Some(FilterElement::Valve(Valve::new(settings.drops)))),
         Settings::AudioConvert(settings) => {
             let allowed = settings.allowed.copy(alloc)?;
             Ok(Some(FilterElement::Convert(Convert::new(allowed))))

@@ -116,7 +116,7 @@ by_row P name (row ∷ rows) each = by (bytes_eq name row.0) (by_row P name rows
 -- properties allow a converter all caps
 any_allowed : (kind : List ℕ) (props : List Prop) (s : AudioConvertSettings) → IsAnswerFor (find_row kind kinds) props (Ok (AudioConvert s)) → s.allowed ≡ Any
 any_allowed kind props s = by_row (λ o. IsAnswerFor o props (Ok (AudioConvert s)) → s.allowed ≡ Any) kind kinds
-    (wrong, (wrong, (wrong, (wrong, (wrong, (wrong, ((λ h. h.1), (wrong, (wrong, (wrong, (wrong, (wrong, (wrong, (wrong, (wrong, (wrong, (wrong, (wrong, (wrong, λ h. absurd h)))))))))))))))))))
+    (wrong, (wrong, (wrong, (wrong, (wrong, (wrong, (wrong, ((λ h. h.1), (wrong, (wrong, (wrong, (wrong, (wrong, (wrong, (wrong, (wrong, (wrong, (wrong, (wrong, (wrong, λ h. absurd h))))))))))))))))))))
   where
     wrong : {P : Type 0} → P × ⊥ → s.allowed ≡ Any
     wrong h = absurd h.1
@@ -128,21 +128,21 @@ set_any kind props _ h = refl
 -- properties make no pads
 tee_none : (kind : List ℕ) (props : List Prop) (s : MadePads) → IsAnswerFor (find_row kind kinds) props (Ok (Tee s)) → s.count ≡ 0
 tee_none kind props s = by_row (λ o. IsAnswerFor o props (Ok (Tee s)) → s.count ≡ 0) kind kinds
-    (wrong, (wrong, (wrong, (wrong, (wrong, ((λ h. h.1), (wrong, (wrong, (wrong, (wrong, (wrong, (wrong, (wrong, (wrong, (wrong, (wrong, (wrong, (wrong, (wrong, λ h. absurd h)))))))))))))))))))
+    (wrong, (wrong, (wrong, (wrong, (wrong, (wrong, ((λ h. h.1), (wrong, (wrong, (wrong, (wrong, (wrong, (wrong, (wrong, (wrong, (wrong, (wrong, (wrong, (wrong, (wrong, λ h. absurd h))))))))))))))))))))
   where
     wrong : {P : Type 0} → P × ⊥ → s.count ≡ 0
     wrong h = absurd h.1
 
 interleave_none : (kind : List ℕ) (props : List Prop) (s : MadePads) → IsAnswerFor (find_row kind kinds) props (Ok (Interleave s)) → s.count ≡ 0
 interleave_none kind props s = by_row (λ o. IsAnswerFor o props (Ok (Interleave s)) → s.count ≡ 0) kind kinds
-    (wrong, (wrong, (wrong, (wrong, (wrong, (wrong, (wrong, (wrong, (wrong, (wrong, (wrong, (wrong, (wrong, (wrong, (wrong, ((λ h. h.1), (wrong, (wrong, (wrong, λ h. absurd h)))))))))))))))))))
+    (wrong, (wrong, (wrong, (wrong, (wrong, (wrong, (wrong, (wrong, (wrong, (wrong, (wrong, (wrong, (wrong, (wrong, (wrong, (wrong, ((λ h. h.1), (wrong, (wrong, (wrong, λ h. absurd h))))))))))))))))))))
   where
     wrong : {P : Type 0} → P × ⊥ → s.count ≡ 0
     wrong h = absurd h.1
 
 concat_none : (kind : List ℕ) (props : List Prop) (s : MadePads) → IsAnswerFor (find_row kind kinds) props (Ok (Concat s)) → s.count ≡ 0
 concat_none kind props s = by_row (λ o. IsAnswerFor o props (Ok (Concat s)) → s.count ≡ 0) kind kinds
-    (wrong, (wrong, (wrong, (wrong, (wrong, (wrong, (wrong, (wrong, (wrong, (wrong, (wrong, (wrong, (wrong, (wrong, (wrong, (wrong, ((λ h. h.1), (wrong, (wrong, λ h. absurd h)))))))))))))))))))
+    (wrong, (wrong, (wrong, (wrong, (wrong, (wrong, (wrong, (wrong, (wrong, (wrong, (wrong, (wrong, (wrong, (wrong, (wrong, (wrong, (wrong, ((λ h. h.1), (wrong, (wrong, λ h. absurd h))))))))))))))))))))
   where
     wrong : {P : Type 0} → P × ⊥ → s.count ≡ 0
     wrong h = absurd h.1

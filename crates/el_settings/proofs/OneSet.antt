@@ -16,13 +16,13 @@ use Rattle.el_settings.specs.declared.domain.Domain.{Domain}
 use Rattle.el_settings.specs.declared.fault.PropFault.{PropFault}
 use Rattle.el_settings.specs.declared.fault.PropFault.TheVariants.{NoSuchKind, NoSuchProperty, BadValue, OutOfMemory}
 use Rattle.el_settings.specs.declared.kind.Kind.{Kind}
-use Rattle.el_settings.specs.declared.kind.Kind.TheVariants.{FileSrc, RampTestSrc, Identity, CapsFilter, Queue, Tee, AudioConvert, Law, RawAudioParse, AudioBufferSplit, WavParse, WavEnc, Interleave, Concat, FileSink, FakeSink}
+use Rattle.el_settings.specs.declared.kind.Kind.TheVariants.{FileSrc, RampTestSrc, Identity, CapsFilter, Valve, Queue, Tee, AudioConvert, Law, RawAudioParse, AudioBufferSplit, WavParse, WavEnc, Interleave, Concat, FileSink, FakeSink}
 use Rattle.el_settings.specs.declared.settings.FileSrcSettings.{FileSrcSettings}
 use Rattle.el_settings.specs.declared.settings.QueueSettings.{QueueSettings}
 use Rattle.el_settings.specs.declared.settings.RampTestSrcSettings.{RampTestSrcSettings}
 use Rattle.el_settings.specs.declared.settings.FileSinkSettings.{FileSinkSettings}
 use Rattle.el_settings.specs.declared.settings.Settings.{Settings}
-use Rattle.el_settings.specs.declared.settings.Settings.TheVariants.{FileSrc as FileSrcBy, RampTestSrc as RampTestSrcBy, Identity as IdentityBy, CapsFilter as CapsFilterBy, Queue as QueueBy, Tee as TeeBy, AudioConvert as AudioConvertBy, Law as LawBy, RawAudioParse as RawAudioParseBy, AudioBufferSplit as AudioBufferSplitBy, WavParse as WavParseBy, WavEnc as WavEncBy, Interleave as InterleaveBy, Concat as ConcatBy, FileSink as FileSinkBy, FakeSink as FakeSinkBy}
+use Rattle.el_settings.specs.declared.settings.Settings.TheVariants.{FileSrc as FileSrcBy, RampTestSrc as RampTestSrcBy, Identity as IdentityBy, CapsFilter as CapsFilterBy, Valve as ValveBy, Queue as QueueBy, Tee as TeeBy, AudioConvert as AudioConvertBy, Law as LawBy, RawAudioParse as RawAudioParseBy, AudioBufferSplit as AudioBufferSplitBy, WavParse as WavParseBy, WavEnc as WavEncBy, Interleave as InterleaveBy, Concat as ConcatBy, FileSink as FileSinkBy, FakeSink as FakeSinkBy}
 use Rattle.caps_text.specs.Grammar.{IsCapsText}
 use Rattle.el_settings.specs.Alike.{AreAlike, AreLike, IsUnjudged}
 use Rattle.el_settings.proofs.Copied.{file_same, ramp_same, split_same, info_same, pads_same}
@@ -101,6 +101,9 @@ set_one one Identity props _ t h g = absurd h
 set_one one CapsFilter props (CapsFilterBy s) (CapsFilterBy t) h g = ap (λ c. CapsFilterBy (record { caps = c })) (caps_one one (codes "caps") props s.caps t.caps h g)
 set_one one CapsFilter props (CapsFilterBy s) _ h g = absurd g
 set_one one CapsFilter props _ t h g = absurd h
+set_one one Valve props (ValveBy s) (ValveBy t) h g = ap (λ b. ValveBy (record { drops = b })) (switch_one (codes "drop") props s.drops t.drops h g)
+set_one one Valve props (ValveBy s) _ h g = absurd g
+set_one one Valve props _ t h g = absurd h
 set_one one Queue props (QueueBy s) (QueueBy t) h g =
     ap QueueBy (queue_one s t (number_one (codes "max-size-buffers") 200 props s.buffers t.buffers h.0 g.0) (number_one (codes "max-size-bytes") 10485760 props s.bytes t.bytes h.1 g.1) (number_one (codes "max-size-time") 1000000000 props s.time t.time h.2 g.2))
 set_one one Queue props (QueueBy s) _ h g = absurd g
@@ -191,6 +194,7 @@ unfit_one FileSink props a b (inl h) (inr g) = absurd g
 unfit_one FileSink props a b (inr h) g = absurd h
 unfit_one Identity props a b h g = absurd h
 unfit_one CapsFilter props a b h g = absurd h
+unfit_one Valve props a b h g = absurd h
 unfit_one Queue props a b h g = absurd h
 unfit_one AudioConvert props a b h g = absurd h
 unfit_one (Law kind) props a b h g = absurd h
@@ -226,6 +230,7 @@ set_unfit FileSink props (FileSinkBy s) name h (inr g) = g
 set_unfit FileSink props _ name h g = absurd h
 set_unfit Identity props s name h g = absurd g
 set_unfit CapsFilter props s name h g = absurd g
+set_unfit Valve props s name h g = absurd g
 set_unfit Queue props s name h g = absurd g
 set_unfit AudioConvert props s name h g = absurd g
 set_unfit (Law kind) props s name h g = absurd g

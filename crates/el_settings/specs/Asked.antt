@@ -11,7 +11,7 @@ use Rattle.el_settings.specs.Templates.{read_audio, wav_file}
 use Rattle.el_settings.specs.declared.settings.QueueSettings.{QueueSettings}
 use Rattle.el_settings.specs.declared.pads.MadePads.{MadePads}
 use Rattle.el_settings.specs.declared.settings.Settings.{Settings}
-use Rattle.el_settings.specs.declared.settings.Settings.TheVariants.{FileSrc, RampTestSrc, Identity, CapsFilter, Queue, Tee, AudioConvert, Law, RawAudioParse, AudioBufferSplit, WavParse, WavEnc, Interleave, Concat, FileSink, FakeSink}
+use Rattle.el_settings.specs.declared.settings.Settings.TheVariants.{FileSrc, RampTestSrc, Identity, CapsFilter, Valve, Queue, Tee, AudioConvert, Law, RawAudioParse, AudioBufferSplit, WavParse, WavEnc, Interleave, Concat, FileSink, FakeSink}
 
 -- Where an element stands in a stream: it begins one, passes one on, splits one into several, brings several together, or
 -- ends one.
@@ -69,6 +69,7 @@ sink_pads (FileSrc s) = 0
 sink_pads (RampTestSrc s) = 0
 sink_pads Identity = 1
 sink_pads (CapsFilter s) = 1
+sink_pads (Valve s) = 1
 sink_pads (Queue s) = 1
 sink_pads (Tee pads) = 1
 sink_pads (AudioConvert s) = 1
@@ -87,6 +88,7 @@ source_pads (FileSrc s) = 1
 source_pads (RampTestSrc s) = 1
 source_pads Identity = 1
 source_pads (CapsFilter s) = 1
+source_pads (Valve s) = 1
 source_pads (Queue s) = 1
 source_pads (Tee pads) = pads.count
 source_pads (AudioConvert s) = 1
@@ -124,6 +126,7 @@ limits_of _ = None
 abbrev pub is_filter : Settings → Bool
 is_filter Identity = true
 is_filter (CapsFilter s) = true
+is_filter (Valve s) = true
 is_filter (AudioConvert s) = true
 is_filter (Law kind) = true
 is_filter (RawAudioParse info) = true
@@ -162,6 +165,7 @@ may_be_replaced settings = is_filter settings
 -- the properties that may be set while the element runs
 abbrev pub is_settable : Settings → List ℕ → Bool
 is_settable (CapsFilter s) name = bytes_eq name (codes "caps")
+is_settable (Valve s) name = bytes_eq name (codes "drop")
 is_settable _ name = false
 
 -- the element that chooses its caps among those that are allowed behind it
@@ -183,6 +187,7 @@ allowed_of _ = Any
 abbrev pub hands_on : Settings → Bool
 hands_on Identity = true
 hands_on (CapsFilter s) = true
+hands_on (Valve s) = true
 hands_on (Queue s) = true
 hands_on _ = false
 

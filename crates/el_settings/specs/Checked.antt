@@ -5,10 +5,10 @@ use Rattle.gst_value.specs.declared.name.Prop.{Prop}
 use Rattle.audio_info.specs.declared.sample.Sample.TheVariants.{S16LE}
 use Rattle.el_src.specs.Ramp.{frame_time}
 use Rattle.el_settings.specs.declared.kind.Kind.{Kind}
-use Rattle.el_settings.specs.declared.kind.Kind.TheVariants.{FileSrc, RampTestSrc, Identity, CapsFilter, Queue, Tee, AudioConvert, Law, RawAudioParse, AudioBufferSplit, WavParse, WavEnc, Interleave, Concat, FileSink, FakeSink}
+use Rattle.el_settings.specs.declared.kind.Kind.TheVariants.{FileSrc, RampTestSrc, Identity, CapsFilter, Valve, Queue, Tee, AudioConvert, Law, RawAudioParse, AudioBufferSplit, WavParse, WavEnc, Interleave, Concat, FileSink, FakeSink}
 use Rattle.el_settings.specs.declared.domain.Domain.{Domain}
 use Rattle.el_settings.specs.declared.settings.Settings.{Settings}
-use Rattle.el_settings.specs.declared.settings.Settings.TheVariants.{FileSrc as FileSrcBy, RampTestSrc as RampTestSrcBy, Identity as IdentityBy, CapsFilter as CapsFilterBy, Queue as QueueBy, Tee as TeeBy, AudioConvert as AudioConvertBy, Law as LawBy, RawAudioParse as RawAudioParseBy, AudioBufferSplit as AudioBufferSplitBy, WavParse as WavParseBy, WavEnc as WavEncBy, Interleave as InterleaveBy, Concat as ConcatBy, FileSink as FileSinkBy, FakeSink as FakeSinkBy}
+use Rattle.el_settings.specs.declared.settings.Settings.TheVariants.{FileSrc as FileSrcBy, RampTestSrc as RampTestSrcBy, Identity as IdentityBy, CapsFilter as CapsFilterBy, Valve as ValveBy, Queue as QueueBy, Tee as TeeBy, AudioConvert as AudioConvertBy, Law as LawBy, RawAudioParse as RawAudioParseBy, AudioBufferSplit as AudioBufferSplitBy, WavParse as WavParseBy, WavEnc as WavEncBy, Interleave as InterleaveBy, Concat as ConcatBy, FileSink as FileSinkBy, FakeSink as FakeSinkBy}
 use Rattle.el_settings.specs.declared.fault.PropFault.{PropFault}
 use Rattle.el_settings.specs.declared.fault.PropFault.TheVariants.{NoSuchKind, NoSuchProperty, BadValue, OutOfMemory}
 use Rattle.el_settings.specs.Kinds.{kinds}
@@ -27,6 +27,7 @@ IsSetTo RampTestSrc props (RampTestSrcBy s) =
     × (last_value (codes "title") props ≡ s.ramp.title)
 IsSetTo Identity props IdentityBy = Unit {0}
 IsSetTo CapsFilter props (CapsFilterBy s) = CapsOr (codes "caps") props s.caps
+IsSetTo Valve props (ValveBy s) = SwitchOr (codes "drop") props s.drops
 IsSetTo Queue props (QueueBy s) =
     NumberOr (codes "max-size-buffers") 200 props s.buffers
     × NumberOr (codes "max-size-bytes") 10485760 props s.bytes

@@ -6,7 +6,7 @@ use Rattle.audio_info.specs.declared.sample.Sample.{Sample}
 use Rattle.audio_info.specs.declared.sample.Sample.TheVariants.{S8, U8, S16LE, S16BE, S24LE, S32LE}
 use Rattle.caps_text.specs.Grammar.{IsCapsText}
 use Rattle.el_settings.specs.declared.kind.Kind.{Kind}
-use Rattle.el_settings.specs.declared.kind.Kind.TheVariants.{FileSrc, RampTestSrc, Identity, CapsFilter, Queue, Tee, AudioConvert, Law, RawAudioParse, AudioBufferSplit, WavParse, WavEnc, Interleave, Concat, FileSink, FakeSink}
+use Rattle.el_settings.specs.declared.kind.Kind.TheVariants.{FileSrc, RampTestSrc, Identity, CapsFilter, Valve, Queue, Tee, AudioConvert, Law, RawAudioParse, AudioBufferSplit, WavParse, WavEnc, Interleave, Concat, FileSink, FakeSink}
 use Rattle.el_settings.specs.declared.domain.Domain.{Domain}
 use Rattle.el_settings.specs.declared.domain.Domain.TheVariants.{Name, Text, Number, Switch, Off, NotLeaky, Format, Caps as CapsTexts}
 use Rattle.el_settings.specs.Numbers.{IsNumber}
@@ -23,6 +23,7 @@ own_rows RampTestSrc =
     ∷ (codes "channels", Number 1 64) ∷ (codes "gap-every", Number 0 1000000) ∷ (codes "title", Text) ∷ []
 own_rows Identity = []
 own_rows CapsFilter = (codes "caps", CapsTexts) ∷ []
+own_rows Valve = (codes "drop", Switch) ∷ []
 own_rows Queue =
     (codes "max-size-buffers", Number 0 4294967295) ∷ (codes "max-size-bytes", Number 0 4294967295) ∷ (codes "max-size-time", Number 0 9223372036854775807)
     ∷ (codes "leaky", NotLeaky) ∷ []

@@ -11,7 +11,7 @@ use crate::kind::{Kind, kind_named};
 use crate::pads::MadePads;
 use crate::settings::{
     AudioBufferSplitSettings, AudioConvertSettings, CapsFilterSettings, FileSinkSettings,
-    FileSrcSettings, QueueSettings, RampTestSrcSettings, Settings,
+    FileSrcSettings, QueueSettings, RampTestSrcSettings, Settings, ValveSettings,
 };
 use crate::values::{
     caps_or_any, format_or, is_switched_on, last_value, number_or, short_number_or,
@@ -91,6 +91,7 @@ fn settings_of(alloc: Global, kind: Kind, props: &[Prop]) -> Result<Settings, Pr
         Kind::RampTestSrc => ramp_test_src(alloc, props),
         Kind::Identity => Ok(Settings::Identity),
         Kind::CapsFilter => caps_filter(alloc, props),
+        Kind::Valve => Ok(valve(props)),
         Kind::Queue => Ok(queue(props)),
         Kind::Tee => Ok(Settings::Tee(MadePads::none())),
         Kind::AudioConvert => Ok(Settings::AudioConvert(AudioConvertSettings {
@@ -195,6 +196,14 @@ fn caps_filter(alloc: Global, props: &[Prop]) -> Result<Settings, PropFault>
 {
     let caps = caps_or_any(alloc, last_value(props, "caps"))?;
     Ok(Settings::CapsFilter(CapsFilterSettings { caps }))
+}
+
+fn valve(props: &[Prop]) -> Settings
+    ensures { IsSetTo Kind.Valve props.now result }
+{
+    Settings::Valve(ValveSettings {
+        drops: is_switched_on(last_value(props, "drop")),
+    })
 }
 
 fn queue(props: &[Prop]) -> Settings

@@ -43,6 +43,7 @@ pub(crate) fn domain_named(kind: Kind, name: &str) -> Option<Domain>
         Kind::RampTestSrc => of_ramp_test_src(name),
         Kind::Identity => None,
         Kind::CapsFilter => of_caps_filter(name),
+        Kind::Valve => of_valve(name),
         Kind::Queue => of_queue(name),
         Kind::Tee => None,
         Kind::AudioConvert => None,
@@ -102,6 +103,15 @@ fn of_caps_filter(name: &str) -> Option<Domain>
 {
     match name {
         "caps" => Some(Domain::Caps),
+        _ => None,
+    }
+}
+
+fn of_valve(name: &str) -> Option<Domain>
+    ensures { result ≡ find_row name.now (own_rows Kind.Valve) }
+{
+    match name {
+        "drop" => Some(Domain::Switch),
         _ => None,
     }
 }

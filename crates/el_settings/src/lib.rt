@@ -19,6 +19,6 @@ pub use fault::PropFault;
 pub use pads::MadePads;
 pub use settings::{
     AudioBufferSplitSettings, AudioConvertSettings, CapsFilterSettings, FileSinkSettings,
-    FileSrcSettings, QueueSettings, RampTestSrcSettings, Settings,
+    FileSrcSettings, QueueSettings, RampTestSrcSettings, Settings, ValveSettings,
 };
 pub use templates::template;

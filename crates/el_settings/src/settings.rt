@@ -41,6 +41,13 @@ pub struct CapsFilterSettings {
     pub caps: Caps,
 }
 
+/// What a valve is set to.
+#[derive(Clone, Copy)]
+pub struct ValveSettings {
+    /// Whether it drops all but EOS.
+    pub drops: bool,
+}
+
 /// The limits of a queue. 0 stands for none.
 #[derive(Clone, Copy)]
 pub struct QueueSettings {
@@ -83,6 +90,7 @@ pub enum Settings {
     RampTestSrc(RampTestSrcSettings),
     Identity,
     CapsFilter(CapsFilterSettings),
+    Valve(ValveSettings),
     Queue(QueueSettings),
     /// A tee, with its source pads.
     Tee(MadePads),
@@ -116,6 +124,7 @@ impl Settings {
             Settings::FileSrc(_) | Settings::RampTestSrc(_) => 0,
             Settings::Identity
             | Settings::CapsFilter(_)
+            | Settings::Valve(_)
             | Settings::Queue(_)
             | Settings::Tee(_)
             | Settings::AudioConvert(_)
@@ -139,6 +148,7 @@ impl Settings {
             | Settings::RampTestSrc(_)
             | Settings::Identity
             | Settings::CapsFilter(_)
+            | Settings::Valve(_)
             | Settings::Queue(_)
             | Settings::AudioConvert(_)
             | Settings::Law(_)
@@ -218,6 +228,7 @@ impl Settings {
             self,
             Settings::Identity
                 | Settings::CapsFilter(_)
+                | Settings::Valve(_)
                 | Settings::AudioConvert(_)
                 | Settings::Law(_)
                 | Settings::RawAudioParse(_)
@@ -240,6 +251,7 @@ impl Settings {
     {
         match self {
             Settings::CapsFilter(_) => name == "caps",
+            Settings::Valve(_) => name == "drop",
             _ => false,
         }
     }
@@ -276,7 +288,7 @@ impl Settings {
     {
         matches!(
             self,
-            Settings::Identity | Settings::CapsFilter(_) | Settings::Queue(_)
+            Settings::Identity | Settings::CapsFilter(_) | Settings::Valve(_) | Settings::Queue(_)
         )
     }
 
@@ -339,6 +351,7 @@ impl Settings {
             Settings::CapsFilter(settings) => Ok(Settings::CapsFilter(CapsFilterSettings {
                 caps: settings.caps.copy(alloc)?,
             })),
+            Settings::Valve(settings) => Ok(Settings::Valve(*settings)),
             Settings::Queue(settings) => Ok(Settings::Queue(*settings)),
             Settings::Tee(pads) => Ok(Settings::Tee(*pads)),
             Settings::AudioConvert(settings) => Ok(Settings::AudioConvert(AudioConvertSettings {

@@ -37,6 +37,7 @@ pub fn template(
         Settings::Interleave(_) => of_interleave(alloc, sink),
         Settings::FileSrc(_)
         | Settings::Identity
+        | Settings::Valve(_)
         | Settings::Queue(_)
         | Settings::Tee(_)
         | Settings::Concat(_)

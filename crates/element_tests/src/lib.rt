@@ -28,4 +28,6 @@ mod rows;
 #[cfg(test)]
 mod tee_tests;
 #[cfg(test)]
+mod valve_tests;
+#[cfg(test)]
 mod wav_parse_tests;

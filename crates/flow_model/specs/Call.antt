@@ -1,12 +1,14 @@
 -- What an element is given, in order: items, and between them what control does to it.
-use Rattle.std.specs.Prelude.{ℕ, suc, ◌==◌, List, [], ◌∷◌, ◌++◌, if◌then◌else◌}
+use Rattle.std.specs.Prelude.{Bool, ℕ, suc, ◌==◌, List, [], ◌∷◌, ◌++◌, if◌then◌else◌}
 use Rattle.gst_caps.specs.declared.caps.Caps.{Caps}
 use Rattle.flow_model.specs.Item.{Item}
 
--- what a running element is given: the caps of a filter, or the caps that a converter is allowed to put out
+-- what a running element is given: the caps of a filter, the caps that a converter is allowed to put out, or whether a valve
+-- drops what it is given
 pub data Setting : Type 0 where
   Filter : (caps : Caps) → Setting
   Allowed : (caps : Caps) → Setting
+  Drops : (drops : Bool) → Setting
 
 -- Control's marks: the element is drained, or a property of it is set.
 pub data Mark : Type 0 where

@@ -133,7 +133,7 @@ impl Graph {
     }
 
     /// The caps that a source pad is allowed to have: all where it is not linked, those of the next source pad through
-    /// an identity or a queue, through a capsfilter those of them that are its own too, in the order of its own, and through
+    /// an identity, a valve or a queue, through a capsfilter those of them that are its own too, in the order of its own, and through
     /// a tee those that all its pads are allowed, in the order of its first pad. Before any other element they are what
     /// the sink pad takes.
     ///

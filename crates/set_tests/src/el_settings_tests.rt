@@ -54,7 +54,7 @@ fn put_caps(alloc: Global, into: &mut String, kind: &str, caps: &Caps) -> Result
     Ok(())
 }
 
-/// Puts what a source, a sink, a queue, or an element of several pads is set to.
+/// Puts what a source, a sink, a queue, a valve, or an element of several pads is set to.
 fn put_end(into: &mut String, settings: &Settings) -> Result<(), Fail> {
     match settings {
         Settings::FileSrc(s) => write!(into, "filesrc {} {}", s.location.as_str(), s.blocksize)?,
@@ -66,6 +66,7 @@ fn put_end(into: &mut String, settings: &Settings) -> Result<(), Fail> {
         Settings::FileSink(s) => {
             write!(into, "filesink {} {}", s.location.as_str(), s.keep_flushed)?;
         }
+        Settings::Valve(s) => write!(into, "valve {}", s.drops)?,
         Settings::FakeSink => into.push_str("fakesink")?,
         _ => into.push_str("?")?,
     }
@@ -149,6 +150,12 @@ identity silent=true: NoSuchProperty silent
 capsfilter: capsfilter ANY
 capsfilter caps=EMPTY caps=audio/x-raw,rate=8000: capsfilter audio/x-raw, rate=(int)8000
 capsfilter caps=audio: BadValue caps
+valve: valve false
+valve drop=yes name=v: valve true
+valve drop=1 drop=false: valve false
+valve drop=True: BadValue drop
+valve drop: BadValue drop
+valve caps=ANY: NoSuchProperty caps
 queue: queue 200 10485760 1000000000
 queue max-size-buffers=4294967295 max-size-bytes=0 max-size-time=9223372036854775807 leaky=no: queue 4294967295 0 9223372036854775807
 queue max-size-buffers=4294967296: BadValue max-size-buffers
@@ -209,7 +216,7 @@ nosuch location=a: NoSuchKind";
 }
 
 /// The pads of an element, and what may be done to it: the numbers of its pads, and letters for source, sink, queue,
-/// replaced, settable caps, location, title and allowed caps.
+/// replaced, settable caps, a settable drop, location, title and allowed caps.
 fn asked(alloc: Global, settings: &Settings) -> Result<String, Fail> {
     let mut text = format!(in alloc; "{}{}", settings.sink_pads(), settings.source_pads())?;
     let answers = [
@@ -218,6 +225,7 @@ fn asked(alloc: Global, settings: &Settings) -> Result<String, Fail> {
         (settings.is_queue(), 'q'),
         (settings.may_be_replaced(), 'r'),
         (settings.is_settable("caps"), 'c'),
+        (settings.is_settable("drop"), 'd'),
         (settings.location().is_some(), 'l'),
         (settings.title().is_some(), 't'),
         (settings.is_converter(), 'a'),
@@ -243,6 +251,7 @@ audiobuffersplit: 11r
 wavparse: 11r
 wavenc: 11r
 capsfilter: 11rc
+valve: 11rd
 queue: 11q
 filesink location=a: 10kl
 fakesink: 10k";
@@ -318,6 +327,7 @@ fn rows_of_templates(rt: HostRuntime) -> Result<(), Fail> {
 ramptestsrc:-:s
 identity:*:*
 queue:*:*
+valve:*:*
 audioconvert:r:r
 mulawenc:s:m
 alawenc:s:a

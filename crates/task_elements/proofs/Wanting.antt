@@ -1,8 +1,7 @@
 -- Which sink pad an element of a stream wants, and how many it has.
 use Rattle.std.proofs.Common.{◌≡◌, ◌<◌, ◌⊎◌, ℕ, Bool, true, false, List, [], ◌∷◌, length, Option, Some, None, refl, sym, ap, ◌∙◌, subst, inl, inr, arith}
 use Rattle.std.proofs.lemmas.Option.{same_Some}
-use Rattle.gst_caps.specs.declared.caps.Caps.TheVariants.{Any}
-use Rattle.flow_model.specs.Call.{Call}
+use Rattle.flow_model.specs.Call.{Call, Drops}
 use Rattle.flow_model.specs.Feeding.{has_eos}
 use Rattle.flow_model.specs.Item.{Item, Ev, Eos}
 use Rattle.flow_model.specs.Rule.{single}
@@ -87,4 +86,4 @@ wants_open bytes (Tee tee) behavior took pad t kind e = open_at t.calls took pad
 wants_open bytes (Sink sink) behavior took pad t (inl joins) e = absurd (cc)
 wants_open bytes (Sink sink) behavior took pad t (inr each) e =
     let owes : behavior.owes ≡ owes_nothing = ap (λ (b : Behavior). b.owes) t.behavior_is in
-    absurd (none_owed (subst PassesEach owes each Any (Ev Eos) refl))
+    absurd (none_owed (subst PassesEach owes each (Drops false) (Ev Eos) refl))

@@ -5,7 +5,7 @@ use Rattle.el_wav.specs.WavParse.{parses as parses_wav, Parsed as WavParsed}
 use Rattle.el_wavenc.specs.Encodes.{encodes}
 use Rattle.el_wavenc.specs.Encoded.{Encoded}
 use Rattle.el_set.proofs.Elements.{identity_drains, filter_drains}
-use Rattle.el_set.proofs.Following.{convert_put, law_put, raw_put, split_put, wav_put, wavenc_put, by_wav, told_wav, by_enc, told_enc, on_taken, fault_by, fault_alone, drain_of_eos}
+use Rattle.el_set.proofs.Following.{valve_put, convert_put, law_put, raw_put, split_put, wav_put, wavenc_put, by_wav, told_wav, by_enc, told_enc, on_taken, fault_by, fault_alone, drain_of_eos}
 use Rattle.el_set.proofs.filter.FilterElement.drain.Goals as goal
 
 pub returns-in-Identity-clause-drained : goal.returns-in-Identity-clause-drained
@@ -15,6 +15,11 @@ pub returns-in-CapsFilter-clause-drained : goal.returns-in-CapsFilter-clause-dra
 returns-in-CapsFilter-clause-drained c =
     let did = c.drain-in-CapsFilter in
     filter_drains did.result c.args.self.now c.in-CapsFilter.filter did.new.self c.args.out.now did.new._out c.in-CapsFilter.is did.ensures.out did.ensures.drained
+
+pub returns-in-Valve-clause-drained : goal.returns-in-Valve-clause-drained
+returns-in-Valve-clause-drained c =
+    let did = c.drain-in-Valve in
+    on_taken did.result (valve_put c.args.self.now c.in-Valve.valve did.new.self (Act Drain) c.args.out.now did.new.out c.in-Valve.is) did.ensures.puts
 
 pub returns-in-Convert-clause-drained : goal.returns-in-Convert-clause-drained
 returns-in-Convert-clause-drained c =

@@ -1,4 +1,6 @@
 use Rattle.flow_model.specs.Call.{Feed}
+use Rattle.el_basic.specs.Valves.{valves}
+use Rattle.el_basic.specs.Valved.{Valved}
 use Rattle.el_convert.specs.Converts.{converts}
 use Rattle.el_convert.specs.Converted.{IsConverted}
 use Rattle.el_law.specs.Laws.{recodes}
@@ -12,7 +14,7 @@ use Rattle.el_wavenc.specs.Encodes.{encodes}
 use Rattle.el_wavenc.specs.Encoded.{Encoded}
 use Rattle.el_set.specs.declared.filter.FilterElement.TheVariants as elements
 use Rattle.el_set.proofs.Elements.{identity_feeds, filter_feeds, filter_faults}
-use Rattle.el_set.proofs.Following.{convert_put, law_put, raw_put, split_put, wav_put, wavenc_put, by_wav, told_wav, by_enc, told_enc, if_taken, flow_by, flow_alone, fault_by, fault_alone, stays_by, stays_wav}
+use Rattle.el_set.proofs.Following.{valve_put, convert_put, law_put, raw_put, split_put, wav_put, wavenc_put, by_wav, told_wav, by_enc, told_enc, if_taken, flow_by, flow_alone, fault_by, fault_alone, stays_by, stays_wav}
 use Rattle.el_set.proofs.filter.FilterElement.feed.Goals as goal
 
 pub returns-in-Identity-clause-fed : goal.returns-in-Identity-clause-fed
@@ -26,6 +28,19 @@ returns-in-CapsFilter-clause-fed c =
 
 pub returns-in-CapsFilter-clause-fault : goal.returns-in-CapsFilter-clause-fault
 returns-in-CapsFilter-clause-fault c = filter_faults c.feed-in-CapsFilter.result c.args.self.now c.in-CapsFilter.filter c.args.item c.in-CapsFilter.is c.feed-in-CapsFilter.ensures.fault
+
+pub returns-in-Valve-clause-fed : goal.returns-in-Valve-clause-fed
+returns-in-Valve-clause-fed c =
+    let did = c.feed-in-Valve in
+    if_taken did.result (valve_put c.args.self.now c.in-Valve.valve did.new.self (Feed c.args.item) c.args.out.now did.new.out c.in-Valve.is) did.ensures.puts
+
+pub returns-in-Valve-clause-flow : goal.returns-in-Valve-clause-flow
+returns-in-Valve-clause-flow c = rw c.in-Valve.is (flow_by valves Valved c.feed-in-Valve.result c.in-Valve.valve c.feed-in-Valve.ensures.flow)
+
+pub returns-in-Valve-clause-stays : goal.returns-in-Valve-clause-stays
+returns-in-Valve-clause-stays c =
+    let did = c.feed-in-Valve in
+    stays_by elements.Valve did.result c.args.self.now c.in-Valve.valve did.new.self c.args.out.now did.new.out c.in-Valve.is did.ensures.stays
 
 pub returns-in-Convert-clause-fed : goal.returns-in-Convert-clause-fed
 returns-in-Convert-clause-fed c =

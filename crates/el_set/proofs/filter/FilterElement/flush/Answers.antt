@@ -1,3 +1,5 @@
+use Rattle.el_basic.specs.Valves.{valves}
+use Rattle.el_basic.specs.Valved.{Valved}
 use Rattle.el_convert.specs.Converts.{converts}
 use Rattle.el_convert.specs.Converted.{IsConverted}
 use Rattle.el_law.specs.Laws.{recodes}
@@ -6,7 +8,7 @@ use Rattle.el_parse.specs.Parses.{parses as parses_raw}
 use Rattle.el_parse.specs.Parsed.{Parsed as RawParsed}
 use Rattle.el_parse.specs.Splits.{splits}
 use Rattle.el_parse.specs.Regrouped.{Regrouped}
-use Rattle.el_set.proofs.Following.{flush_followed, converts_calm, recodes_calm, parses_raw_calm, splits_calm, parses_wav_calm, encodes_calm, by_wav, told_wav, by_enc, told_enc}
+use Rattle.el_set.proofs.Following.{flush_followed, valves_calm, converts_calm, recodes_calm, parses_raw_calm, splits_calm, parses_wav_calm, encodes_calm, by_wav, told_wav, by_enc, told_enc}
 use Rattle.el_set.proofs.filter.FilterElement.flush.Goals as goal
 
 pub returns-in-Identity : goal.returns-in-Identity
@@ -14,6 +16,9 @@ returns-in-Identity c = rw c.in-Identity.is (λ respond calls put number s. (s.0
 
 pub returns-in-CapsFilter : goal.returns-in-CapsFilter
 returns-in-CapsFilter c = rw c.in-CapsFilter.is (λ respond calls put number s. (s.0, s.1, c.flush-in-CapsFilter.ensures s.0 calls put number s.2))
+
+pub returns-in-Valve : goal.returns-in-Valve
+returns-in-Valve c = rw c.in-Valve.is (flush_followed valves Valved c.in-Valve.valve c.flush-in-Valve.new.self valves_calm c.flush-in-Valve.ensures)
 
 pub returns-in-Convert : goal.returns-in-Convert
 returns-in-Convert c = rw c.in-Convert.is (flush_followed converts IsConverted c.in-Convert.convert c.flush-in-Convert.new.self converts_calm c.flush-in-Convert.ensures)
