@@ -30,6 +30,7 @@ pub struct Order {
 impl Order {
     ghost use Rattle.graph_order.specs.Forward.{IsForward, AfterLink, AfterOneLink, HasRoom, links_of, forward_of, count_of};
     ghost use Rattle.graph_order.specs.Links.{IsLink, Way};
+    ghost use Rattle.graph_order.specs.declared.order.Linking.TheVariants as linkings;
 
     /// No elements. Takes no memory.
     pub fn new(alloc: Global) -> Order
@@ -129,6 +130,8 @@ impl Order {
         requires from { from < count_of self.old }
         requires to { to < count_of self.old }
         ensures answer { IfOk result (λ linking. IsForward self.old → AfterOneLink self.old from to self.new linking) }
+        ensures known { IsLink from to (links_of self.old) → IfOk result (λ linking. linking ≡ linkings.Linked) × (self.new ≡ self.old) }
+        ensures new { OnErr result (¬ IsLink from to (links_of self.old)) }
         ensures count { count_of self.new ≡ count_of self.old }
         ensures forward { IsForward self.old → IsForward self.new }
         ensures stays { OnErr result ((links_of self.new ≡ links_of self.old) × (forward_of self.new ≡ forward_of self.old)) }
