@@ -29,7 +29,7 @@ pub cons_not : {A : Type 0} {x : A} {xs ys : List A} → ys ≡ x ∷ xs → ys 
 cons_not e f = cc
 
 -- whether nothing stands in the inlets of an element can be told
-empty_or_not : (hs : List (List Call)) → AreEmpty hs ⊎ (AreEmpty hs → ⊥)
+pub empty_or_not : (hs : List (List Call)) → AreEmpty hs ⊎ (AreEmpty hs → ⊥)
 empty_or_not [] = inl tt
 empty_or_not ([] ∷ hs) = ⊎_elim (λ yes'. inl (refl, yes')) (λ not. inr (λ h. not h.1)) (empty_or_not hs)
 empty_or_not ((c ∷ cs) ∷ hs) = inr (λ h. cons_nil h.0)
@@ -70,7 +70,7 @@ module _ {S E I O L : Type 0} {s : sources.Ghosts S} {e : elements.Ghosts E} {i 
       other : {k rows : ℕ} → by_inlets k rows ≡ by_source n file wire → ⊥
       other e = cc
 
-  idle_at : (p : ℕ) (task : Task S E I O L s e i o) → HasElement (frame_of task) (m.plan.owner p) → (step : Step) → is_idle step ≡ true → TaskRests tells m task step → m.waits p ≡ []
+  pub idle_at : (p : ℕ) (task : Task S E I O L s e i o) → HasElement (frame_of task) (m.plan.owner p) → (step : Step) → is_idle step ≡ true → TaskRests tells m task step → m.waits p ≡ []
   idle_at p task has Moved calm h = absurd h
   idle_at p task has (NeedsItem lane) calm h = idle_by p (frame_of task) has h.0 (λ n file wire is. absurd (lacks_not task.head task.parts.items lane n file wire h.1 is))
   idle_at p task has (NeedsRoom lane) calm h = absurd (false≢true calm)
