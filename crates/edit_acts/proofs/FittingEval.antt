@@ -92,7 +92,7 @@ empty_or_not ((c ∷ cs) ∷ hs) = inr (λ empty. cons_not empty.0)
     cons_not e = cc
 
 -- where nothing is at each place, nothing is there
-all_empty : (css : List (List Call)) → ((port : ℕ) → port < length css → ListAt port css []) → AreEmpty css
+pub all_empty : (css : List (List Call)) → ((port : ℕ) → port < length css → ListAt port css []) → AreEmpty css
 all_empty [] each = tt
 all_empty (cs ∷ css) each = (each 0 (omega arith), all_empty css (λ port within. each (suc port) (omega (arith, within))))
 

@@ -9,9 +9,11 @@ use Rattle.flow_model.specs.declared.element.TaskElement as elements
 use Rattle.flow_model.specs.declared.source.TaskSource as sources
 use Rattle.lane_core.specs.declared.ends.Inlet as inlets
 use Rattle.lane_core.specs.declared.ends.Outlet as outlets
+use Rattle.net_turns.specs.Rests.{NetRests}
 use Rattle.script_text.specs.declared.command.Command.{Command}
 use Rattle.graph_core.specs.GraphPlan.{sink_at}
 use Rattle.graph_edits.specs.Edited.{Edited, is_there}
+use Rattle.edit_core.specs.Feeds.{FeedsStay}
 use Rattle.edit_core.specs.Judging.{owed_then}
 use Rattle.edit_core.specs.Whole.{owner_in}
 use Rattle.edit_acts.specs.Evaluated.{FitsPlan, GoesOnTurned, IsEvaluated, IsGone, TurnsKeepEvaluated}
@@ -22,6 +24,7 @@ use Rattle.edit_acts.proofs.FittingEval.{owner_is, owner_within}
 use Rattle.edit_acts.proofs.FittingGone.{all_crossed, all_taken, gone_took}
 use Rattle.edit_acts.proofs.FittingSpans.{gone_free, inputs_stay}
 use Rattle.edit_acts.proofs.FittingStays.{gone_stays}
+use Rattle.edit_acts.proofs.Stepped.{rest_controlled}
 use Rattle.edit_acts.proofs.Turning.{due_on, has_on, scripted_on}
 
 module _ {S E I O L : Type 0} {s : sources.Ghosts S} {e : elements.Ghosts E} {i : inlets.Ghosts I L O} {o : outlets.Ghosts O L} (contents : ℕ → List ℕ) (script : List Command) (first : Edited)
@@ -102,12 +105,20 @@ module _ {S E I O L : Type 0} {s : sources.Ghosts S} {e : elements.Ghosts E} {i 
   }
 
 pub turns_keep_evaluated : {S E I O L : Type 0} (s : sources.Ghosts S) (e : elements.Ghosts E) (i : inlets.Ghosts I L O) (o : outlets.Ghosts O L)
-    → StepsKeepControl s e i o → TrialsKeepControl s e i o → TurnsKeepEvaluated s e i o
-turns_keep_evaluated s e i o steps trials = record {
+    → FeedsStay → StepsKeepControl s e i o → TrialsKeepControl s e i o → TurnsKeepEvaluated s e i o
+unfolding goes_evaluated
+turns_keep_evaluated s e i o feeds_stay steps trials = record {
   step = λ contents script first was is place step w stepped keeps.
       goes_evaluated contents script first was is w keeps
       (steps was.graph was.feeds was.tasks is.tasks w.scripted.g w.scripted.m was.tells is.tells place step w.scripted.has stepped);
   trial = λ contents script first was is place moved w tried keeps.
       goes_evaluated contents script first was is w keeps
       (trials was.graph was.feeds was.tasks is.tasks w.scripted.g w.scripted.m was.tells is.tells place moved w.scripted.has tried);
+  rest = λ contents script first was is place moved answered w tried ended keeps.
+      let rest =
+      rest_controlled feeds_stay trials was.graph was.feeds was.tasks is.tasks w.scripted.g w.scripted.m was.tells is.tells place moved answered w.scripted.has tried ended in
+      record {
+        goes = goes_evaluated contents script first was is w keeps rest.0;
+        rests = subst (λ (m : Moment). NetRests (λ k. Unit {0}) m is.tasks answered is.tells) (sym rest.1) ended.rests;
+      };
 }

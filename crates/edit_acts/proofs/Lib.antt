@@ -54,7 +54,7 @@ mod ProbedPads
 pub mod Planning
 mod FittingOrder
 mod FittingGone
-mod FittingEval
+pub mod FittingEval
 mod FittingSpans
 mod FittingStays
 mod FittingActs

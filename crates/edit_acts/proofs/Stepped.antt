@@ -1,5 +1,5 @@
 -- A run goes on with what control has of it, where its tasks were stepped.
-use Rattle.std.proofs.Common.{◌≡◌, ◌++◌, ℕ, Bool, true, false, List, [], ◌∷◌, Option, sym, ap, ◌∙◌, subst, append-nil}
+use Rattle.std.proofs.Common.{◌≡◌, ◌++◌, ℕ, Bool, true, false, List, [], ◌∷◌, Option, refl, sym, ap, ◌∙◌, subst, append-nil}
 use Rattle.std.proofs.lemmas.Bool.{true≢false}
 use Rattle.flow_model.specs.Eval.{Plan}
 use Rattle.flow_model.specs.Item.{Item}
@@ -15,6 +15,7 @@ use Rattle.flow_model.specs.declared.source.TaskSource as sources
 use Rattle.task_parts.specs.declared.step.Step.{Step}
 use Rattle.net_task.specs.declared.task.Task.{Task}
 use Rattle.net_turns.specs.Net.{GoesOn, NetGoes, NetStands}
+use Rattle.net_turns.specs.Rests.{NetEnded}
 use Rattle.net_turns.specs.Turns.{AreTried, IsStepped, StepsKeepNet}
 use Rattle.net_turns.proofs.Growing.{goes_both, stays_so}
 use Rattle.net_edits.proofs.Endings.{crossed_calm, crossed_closed, not_ended}
@@ -130,6 +131,17 @@ module _ {S E I O L : Type 0} {s : sources.Ghosts S} {e : elements.Ghosts E} {i 
       → GoesOnControlled graph feeds is g m behind
   all_tried keep _ _ _ _ AreTried.none = none_done
   all_tried keep _ _ _ _ (AreTried.one place moved step was is before behind tried stepped) = one_more keep was is before behind place step (all_tried keep place moved was before tried) stepped
+
+-- Where each was tried and none can move, control has the run at the moment at which they rest.
+pub rest_controlled : {S E I O L : Type 0} {s : sources.Ghosts S} {e : elements.Ghosts E} {i : inlets.Ghosts I L O} {o : outlets.Ghosts O L} → FeedsStay → TrialsKeepControl s e i o → (graph : EditedGraph) (feeds : Feeds)
+    (tasks tasks' : List (Task S E I O L s e i o)) (g : Edited) (m : Moment) (tells tells' : Option (List Lane)) (place : ℕ) (moved : Bool) (steps : List Step) → IsControlled graph feeds tasks g m tells
+    → AreTried tasks tells place moved tasks' tells' → (ended : NetEnded m tasks' steps tells') → (goes : GoesOnControlled graph feeds tasks' g m tells') × (goes.now ≡ ended.last)
+unfolding goes_controlled
+rest_controlled feeds_stay trials graph feeds tasks tasks' g m tells tells' place moved steps w tried ended = (
+  goes_controlled graph feeds tasks tasks' g m tells tells' w feeds_stay (record { now = ended.last; goes_on = ended.goes_on; net = ended.rests.net })
+      (trials graph feeds tasks tasks' g m tells tells' place moved w tried).controlled.run.are,
+  refl,
+)
 
 pub trials_keep_control : {S E I O L : Type 0} (s : sources.Ghosts S) (e : elements.Ghosts E) (i : inlets.Ghosts I L O) (o : outlets.Ghosts O L)
     → StepsKeepControl s e i o → TrialsKeepControl s e i o

@@ -19,6 +19,7 @@ use Rattle.graph_parts.specs.Pads.{is_pad}
 use Rattle.lane_core.specs.declared.ends.Inlet as inlets
 use Rattle.lane_core.specs.declared.ends.Outlet as outlets
 use Rattle.net_edits.specs.Adding.{owes_just}
+use Rattle.net_turns.specs.Rests.{NetEnded, NetRests}
 use Rattle.net_turns.specs.Turns.{AreTried, IsStepped}
 use Rattle.script_text.specs.declared.command.Command.{Command}
 use Rattle.task_parts.specs.declared.step.Step.{Step}
@@ -79,6 +80,11 @@ module _ {S E I O L : Type 0} {s : sources.Ghosts S} {e : elements.Ghosts E} {i 
     pub crossed : (p : ℕ) → is_pad w.scripted.g.made p ≡ true → is_there w.scripted.g (w.scripted.m.plan.owner p) ≡ false → run.scripted.m.history p ≡ w.scripted.m.history p
     pub took : (a : ℕ) → a < length w.scripted.g.made → is_there w.scripted.g a ≡ false → run.scripted.m.took a ≡ w.scripted.m.took a
 
+  -- Where each task was tried and none can move, it fits that at the moment at which they rest, for the reasons that they answered.
+  pub record RestsEvaluated (steps : List Step) : Type 0 where
+    pub goes : GoesOnTurned
+    pub rests : NetRests (λ k. Unit {0}) goes.run.scripted.m is.tasks steps is.tells
+
 module _ {S E I O L : Type 0} (s : sources.Ghosts S) (e : elements.Ghosts E) (i : inlets.Ghosts I L O) (o : outlets.Ghosts O L) where
   -- So it stays when the next command is answered, where it names its pad if it acts on one.
   abbrev pub ActsKeepEvaluated : Type 0
@@ -91,6 +97,8 @@ module _ {S E I O L : Type 0} (s : sources.Ghosts S) (e : elements.Ghosts E) (i 
         → IsStepped place step was.tasks is.tasks was.tells is.tells → KeepsControl was is → GoesOnTurned contents script first was is w
     pub trial : (contents : ℕ → List ℕ) (script : List Command) (first : Edited) (was is : ScriptRun s e i o) (place : ℕ) (moved : Bool) (w : IsEvaluated contents script first was)
         → AreTried was.tasks was.tells place moved is.tasks is.tells → KeepsControl was is → GoesOnTurned contents script first was is w
+    pub rest : (contents : ℕ → List ℕ) (script : List Command) (first : Edited) (was is : ScriptRun s e i o) (place : ℕ) (moved : Bool) (steps : List Step) (w : IsEvaluated contents script first was)
+        → AreTried was.tasks was.tells place moved is.tasks is.tells → NetEnded w.scripted.m is.tasks steps is.tells → KeepsControl was is → RestsEvaluated contents script first was is w steps
 
   -- What crossed the pads at any moment of such a run is what the evaluation of its graph gives, cut at these counts; and what is due to a pad begins what is owed to it by these
   -- histories.

@@ -4,6 +4,7 @@ ghost use Rattle.edit_acts.specs.Scripted.{ActsKeepScripts, TurnsKeepScripts};
 
 use crate::laws::{steps_keep_control, trials_keep_control};
 use edit_core::edited_is_eval;
+use edit_core::laws::feeds_stay;
 use flow_model::{TaskElement, TaskSource};
 use lane_core::{Inlet, Outlet};
 
@@ -40,7 +41,7 @@ pub fn acts_keep_evaluated<
     ensures { ActsKeepEvaluated S.TaskSource E.TaskElement I.Inlet O.Outlet }
 {}
 
-/// So it is in each turn of a task, and where all are tried.
+/// So it is in each turn of a task, and where all are tried. Where none can move it is so at the moment at which they rest.
 pub fn turns_keep_evaluated<
     S: TaskSource,
     E: TaskElement,
@@ -51,6 +52,7 @@ pub fn turns_keep_evaluated<
 {
     steps_keep_control::<S, E, I, O>();
     trials_keep_control::<S, E, I, O>();
+    feeds_stay();
 }
 
 /// What crossed the pads of a run that fits the evaluation of its graph is what that gives, cut at these counts.

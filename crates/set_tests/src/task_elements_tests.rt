@@ -81,16 +81,34 @@ fn settings_of(alloc: Global, word: &str) -> Result<Settings, Fail> {
     }
 }
 
-/// What the element of a word puts out for letters, and the length of its file.
-fn row(alloc: Global, word: &str, letters: &str) -> Result<(String, Option<u64>), Fail> {
+/// An element by its settings, over a file that takes three bytes.
+fn element_over(
+    alloc: Global,
+    settings: &Settings,
+) -> Result<Option<StreamElement<MemSink>>, Fail> {
     let output = Text::from_str(alloc, "out")?;
     let written = MemSink::new(alloc, output, 3, List::new(alloc), List::new(alloc))?;
+    Ok(element_of(alloc, settings, Some(written))?)
+}
+
+fn element_by(alloc: Global, word: &str) -> Result<Option<StreamElement<MemSink>>, Fail> {
     let settings = settings_of(alloc, word)?;
-    match element_of(alloc, &settings, Some(written))? {
-        Some(mut element) => {
-            let text = fed(alloc, &mut element, letters)?;
-            Ok((text, element.len()))
-        }
+    element_over(alloc, &settings)
+}
+
+fn told(
+    alloc: Global,
+    element: &mut StreamElement<MemSink>,
+    letters: &str,
+) -> Result<(String, Option<u64>), Fail> {
+    let text = fed(alloc, element, letters)?;
+    Ok((text, element.len()))
+}
+
+/// What the element of a word puts out for letters, and the length of its file.
+fn row(alloc: Global, word: &str, letters: &str) -> Result<(String, Option<u64>), Fail> {
+    match element_by(alloc, word)? {
+        Some(mut element) => told(alloc, &mut element, letters),
         None => Ok((String::new(alloc), None)),
     }
 }

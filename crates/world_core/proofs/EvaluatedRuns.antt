@@ -1,25 +1,18 @@
 -- A run of a script fits the evaluation of its graph to its end, with the tasks that it sets aside.
 use Rattle.std.proofs.Common.{◌≡◌, ◌⊎◌, ◌<◌, ℕ, Bool, true, false, if◌then◌else◌, List, All, Option, None, Some, length, refl, sym, ap, ◌∙◌, subst, inl, inr, arith}
-use Rattle.std.specs.Prelude.{◌==◌, nat_lt, slice_get}
+use Rattle.std.specs.Prelude.{◌==◌, nat_lt}
 use Rattle.std.specs.List.{list_any}
-use Rattle.std.specs.Option.{option_map}
-use Rattle.std.proofs.lemmas.Bool.{cases_eq, ltb-true}
+use Rattle.std.proofs.lemmas.Bool.{ltb-true}
 use Rattle.std.proofs.lemmas.List.{length_push}
 use Rattle.flow_model.specs.Item.{Item}
-use Rattle.flow_model.specs.Call.{Call}
-use Rattle.flow_model.specs.Moment.{Behavior, Moment, behavior_at}
-use Rattle.flow_model.specs.Refuses.{RefusesBy}
+use Rattle.flow_model.specs.Moment.{Moment}
 use Rattle.flow_model.specs.declared.element.TaskElement as elements
 use Rattle.flow_model.specs.declared.source.TaskSource as sources
-use Rattle.gst_value.proofs.Basics.{some_same}
-use Rattle.lane_core.specs.Lane.{Lane}
+use Rattle.gst_value.proofs.Basics.{none_some, some_same}
 use Rattle.lane_core.specs.declared.ends.Inlet as inlets
 use Rattle.lane_core.specs.declared.ends.Outlet as outlets
 use Rattle.net_edits.specs.Adding.{NoneOwns}
-use Rattle.net_task.specs.Failed.{FailsAs, GaveUp, Left, Origin, StandsOrFell}
-use Rattle.net_task.specs.Frame.{IsWire, TaskFrame, frame_of}
 use Rattle.net_task.specs.Ties.{Stands, nothing_lost}
-use Rattle.net_task.specs.declared.task.Task.{Task}
 use Rattle.net_turns.specs.Turns.{HasMet, HasMetTrying}
 use Rattle.net_turns.specs.declared.net.Stopped.{Stopped}
 use Rattle.graph_edits.specs.Edited.{Edited, is_there, without_element}
@@ -31,9 +24,7 @@ use Rattle.script_text.specs.declared.answer.Place.{Place}
 use Rattle.script_text.specs.declared.command.Act.{Act}
 use Rattle.script_text.specs.declared.command.Act.TheVariants as acts
 use Rattle.script_text.specs.declared.command.Command.{Command}
-use Rattle.task_parts.specs.Fault.{refusal_fault}
 use Rattle.task_parts.specs.declared.fault.TaskFault.{TaskFault}
-use Rattle.task_parts.specs.declared.part.Part.{Part}
 use Rattle.turn_loop.specs.declared.taking.TakesTurns.{Ghosts}
 use Rattle.edit_core.specs.Deciding.{IsDeed, names_its_pad}
 use Rattle.edit_core.specs.Judging.{owed_then}
@@ -45,9 +36,8 @@ use Rattle.edit_acts.specs.Scripted.{IsAnsweredBy, KeepsControl, ScriptRun}
 use Rattle.edit_acts.proofs.Entered.{named_next}
 use Rattle.edit_acts.proofs.Gone.{element_there}
 use Rattle.graph_pads.specs.declared.pad.PadPlace.{PadPlace}
-use Rattle.graph_tasks.specs.Written.{TaskCrossed}
 use Rattle.world_core.specs.Answering.{ActsOn, AsksFor, HasSetAside, IsActedShort, SetsAside, SetsAsideFor, TellsNothingDone}
-use Rattle.world_core.specs.Evaluated.{AreCounted, AreSetAside, EndsWithDone, HasFallen, HasPad, IsPartOf, IsRunAt, IsRunOf}
+use Rattle.world_core.specs.Evaluated.{AreSetAside, EndsWithDone, IsAtRest, IsRunAt, IsRunOf}
 use Rattle.world_core.specs.Probing.{HasActed, HasProbed}
 use Rattle.world_core.specs.Running.{HasMetAsTried, HasMetAt, IsStepped, IsTried, KeepsTurns, tells_of, view_of}
 use Rattle.world_core.specs.Watching.{HasLookedUp}
@@ -55,6 +45,7 @@ use Rattle.world_core.specs.declared.running.RunFault.{RunFault}
 use Rattle.world_core.specs.declared.running.RunFault.TheVariants.{Stopped as AtFault}
 use Rattle.world_core.specs.declared.running.Running.{Running}
 use Rattle.world_core.proofs.AsideRuns.{aside_more, aside_moves, tied_crossed}
+use Rattle.world_core.proofs.BehindFault.{counted_behind, each_behind, frames_behind, parts_behind}
 use Rattle.world_core.proofs.ProbeActs.{by_probe}
 use Rattle.world_core.proofs.Turns.{Meets}
 
@@ -94,19 +85,6 @@ module _ (g : Edited) (h owed : ℕ → List Item) where
   taken_so _ _ _ _ name n (Makes.removes p place other k named free) is at =
       let same : other ≡ name = cc in
       ap (λ (x : ℕ). without_element x g) (some_same (sym named ∙ ap (element_named g) same ∙ at))
-
--- what is given up has crossed no pad
-gave_up_same : (m : Moment) (n pad : ℕ) (x : Item) (origin : Origin) (behind : Moment) (lost : ℕ → List Item) → GaveUp m n pad x origin behind lost → behind.history ≡ m.history
-gave_up_same m n pad x _ _ _ (GaveUp.by_pad p rest waits leads) = refl
-gave_up_same m n pad x _ _ _ (GaveUp.by_source p rest waits leads) = refl
-gave_up_same m n pad x _ _ _ GaveUp.by_inlet = refl
-
--- and is of no element
-took_same : (m : Moment) (n pad : ℕ) (x : Item) (origin : Origin) (behind : Moment) (lost : ℕ → List Item) → GaveUp m n pad x origin behind lost → (Stood : Behavior → List (List Call) → Type 0) (a : ℕ)
-    → Stood (behavior_at behind a) (behind.took a) → Stood (behavior_at m a) (m.took a)
-took_same m n pad x _ _ _ (GaveUp.by_pad p rest waits leads) Stood a stood = stood
-took_same m n pad x _ _ _ (GaveUp.by_source p rest waits leads) Stood a stood = stood
-took_same m n pad x _ _ _ GaveUp.by_inlet Stood a stood = stood
 
 -- the act of a deed
 record TakesAway (g : Edited) (act : Act) (n : ℕ) : Type 0 where
@@ -261,110 +239,32 @@ module _ {S E I O L : Type 0} {s : sources.Ghosts S} {e : elements.Ghosts E} {i 
 
   -- ---- where it has stopped
 
-  pub at_end : (run : Running S E I O L s e i o) → IsRunOf contents script first run → IsRunAt contents script first None run
-  at_end run w = record {
-    was = view_of run;
-    of = w.evaluated;
-    aside = w.aside;
-    graph = refl;
-    entries = refl;
-    counted = λ place task at. tied_crossed (λ part. Stands w.evaluated.scripted.m part) nothing_lost w.evaluated.scripted.m w.evaluated.scripted.m refl task (w.evaluated.scripted.has.run.net.tied place task at);
-    each = λ p pad. pad;
-    frames = λ place. refl;
-    parts = λ part is. inl ((w.evaluated.scripted.has.run.net.tied is.place is.task is.at).parts_tied.each is.within part is.is).stood;
-  }
+  -- none of its tasks could move as each was tried
+  pub at_end : TurnsKeepEvaluated s e i o → (was is : Running S E I O L s e i o) → IsRunOf contents script first was → IsTried false was is → IsRunAt contents script first None is
+  at_end law was is w tried =
+      let m = w.evaluated.scripted.m in
+      let z =
+      law.rest contents script first (view_of was) (view_of is) (length was.tasks.items) false is.steps.items w.evaluated tried.tried (tried.advanced m w.evaluated.scripted.has.run.net) tried.control in
+      let run = z.goes.run in
+      record {
+        was = view_of is;
+        of = run;
+        aside =
+            subst (λ (h : Edited). AreSetAside h run.scripted.m is.removed.items) (sym z.goes.graph)
+            (subst (AreSetAside w.evaluated.scripted.g run.scripted.m) (sym tried.keeps.turns.removed)
+            (aside_moves w.evaluated.scripted.g w.evaluated.scripted.g m run.scripted.m refl z.goes.owner (λ a. refl) (λ p gone. z.goes.crossed p gone.0 gone.1) z.goes.took was.removed.items w.aside));
+        graph = refl;
+        entries = refl;
+        counted = λ place task at. tied_crossed (λ part. Stands run.scripted.m part) nothing_lost run.scripted.m run.scripted.m refl task (run.scripted.has.run.net.tied place task at);
+        each = λ p pad. pad;
+        frames = λ place. refl;
+        parts = λ part is. inl ((run.scripted.has.run.net.tied is.place is.task is.at).parts_tied.each is.within part is.is).stood;
+        rests = λ none. record { tasks = refl; tells = refl; rests = z.rests };
+      }
 
-  -- a task behind its fault counted what crossed its pads
-  module _ (m : Moment) (tells over : Option (List Lane)) (before after : Task S E I O L s e i o) where
-    behind_fault : (origin : _) (fault : TaskFault) → FailsAs i o tells over m before.head after.head before.parts.items after.parts.items origin fault → TaskCrossed m after
-    behind_fault _ _ (FailsAs.refused origin n pad x refusal left was refuses) = of_left left
-      where
-        of_left : Left i o m origin after.head after.parts.items n pad x → TaskCrossed m after
-        of_left l = tied_crossed _ l.lost m l.behind (gave_up_same m n pad x origin l.behind l.lost l.gave_up) after l.tied
-    behind_fault _ _ (FailsAs.unread n why stay unread short) = tied_crossed (λ part. Stands m part) nothing_lost m m refl after stay.0
-    behind_fault _ _ (FailsAs.not_linked p x rest stay waits buffer none) = tied_crossed (λ part. Stands m part) nothing_lost m m refl after stay.0
-    behind_fault _ _ (FailsAs.at_limit p x rest stay waits full) = tied_crossed (λ part. Stands m part) nothing_lost m m refl after stay.0
-    behind_fault _ _ (FailsAs.no_memory origin stay) = tied_crossed (λ part. Stands m part) nothing_lost m m refl after stay.0
-
-    -- and its elements stand for what they took, but for one that refused an item
-    module _ (j : ℕ) (part : Part E O e) (at : slice_get after.parts.items j ≡ Some part) where
-      abbrev StandsNow : Type 0
-      StandsNow = e.stands part.element (behavior_at m part.number) (m.took part.number)
-
-      part_behind : (origin : _) (fault : TaskFault) → FailsAs i o tells over m before.head after.head before.parts.items after.parts.items origin fault → StandsNow ⊎ HasFallen m (Some fault) part
-      part_behind _ _ (FailsAs.refused origin n pad x refusal left was refuses) = of_left left
-        where
-          fell : part.number ≡ n → e.fell part.element (behavior_at m part.number) (m.took part.number) pad x → HasFallen m (Some (refusal_fault n refusal)) part
-          fell number is = record {
-            refusal = refusal;
-            is = ap (λ (a : ℕ). Some (refusal_fault a refusal)) (sym number);
-            pad = pad;
-            item = x;
-            fell = is;
-            why = subst (λ (a : ℕ). RefusesBy (behavior_at m a) (m.took a) pad x refusal) (sym number) refuses.why;
-          }
-
-          by_gave : (behind : Moment) (lost : ℕ → List Item) → GaveUp m n pad x origin behind lost → StandsOrFell n pad x behind part → StandsNow ⊎ HasFallen m (Some (refusal_fault n refusal)) part
-          by_gave behind lost gave (inl stands) = inl (took_same m n pad x origin behind lost gave (λ b took. e.stands part.element b took) part.number stands)
-          by_gave behind lost gave (inr is) = inr (fell is.0 (took_same m n pad x origin behind lost gave (λ b took. e.fell part.element b took pad x) part.number is.1))
-
-          of_left : Left i o m origin after.head after.parts.items n pad x → StandsNow ⊎ HasFallen m (Some (refusal_fault n refusal)) part
-          of_left l = by_gave l.behind l.lost l.gave_up (l.tied.parts_tied.each j part at).stood
-      part_behind _ _ (FailsAs.unread n why stay unread short) = inl (stay.0.parts_tied.each j part at).stood
-      part_behind _ _ (FailsAs.not_linked p x rest stay waits buffer none) = inl (stay.0.parts_tied.each j part at).stood
-      part_behind _ _ (FailsAs.at_limit p x rest stay waits full) = inl (stay.0.parts_tied.each j part at).stood
-      part_behind _ _ (FailsAs.no_memory origin stay) = inl (stay.0.parts_tied.each j part at).stood
-
-  module _ (was : ScriptRun s e i o) (w : IsEvaluated contents script first was) (last : List (Task S E I O L s e i o)) (place : ℕ) (fault : TaskFault) (met : HasMet place fault was.tasks last was.tells) where
-    counted_behind : AreCounted w.scripted.m last
-    counted_behind k task at = by (cases_eq k place)
-      where
-        ties : (j : ℕ) (t : Task S E I O L s e i o) → slice_get was.tasks j ≡ Some t → TaskCrossed w.scripted.m t
-        ties j t there = tied_crossed (λ part. Stands w.scripted.m part) nothing_lost w.scripted.m w.scripted.m refl t (w.scripted.has.run.net.tied j t there)
-
-        by : (k ≡ place) ⊎ (k ≡ place → ⊥) → TaskCrossed w.scripted.m task
-        by (inl same) =
-            let failed = met.failed w.scripted.m (w.scripted.has.run.net.tied place met.before met.at) in
-            subst (λ (t : Task S E I O L s e i o). TaskCrossed w.scripted.m t) (some_same (sym met.at_after ∙ ap (slice_get last) (sym same) ∙ at))
-            (behind_fault w.scripted.m was.tells met.over met.before met.after failed.origin fault failed.fails)
-        by (inr other) = ties k task (sym (met.others k other) ∙ at)
-
-    abbrev framed : Option (Task S E I O L s e i o) → Option TaskFrame
-    framed one = option_map (λ (task : Task S E I O L s e i o). frame_of task) one
-
-    frames_behind : (k : ℕ) → framed (slice_get last k) ≡ framed (slice_get was.tasks k)
-    frames_behind k = by (cases_eq k place)
-      where
-        by : (k ≡ place) ⊎ (k ≡ place → ⊥) → framed (slice_get last k) ≡ framed (slice_get was.tasks k)
-        by (inl same) = ap (λ (n : ℕ). framed (slice_get last n)) same ∙ ap framed met.at_after ∙ ap Some met.frame ∙ sym (ap framed met.at) ∙ ap (λ (n : ℕ). framed (slice_get was.tasks n)) (sym same)
-        by (inr other) = ap framed (met.others k other)
-
-    parts_behind : (part : Part E O e) → IsPartOf last part → e.stands part.element (behavior_at w.scripted.m part.number) (w.scripted.m.took part.number) ⊎ HasFallen w.scripted.m (Some fault) part
-    parts_behind part is = by (cases_eq is.place place)
-      where
-        by : (is.place ≡ place) ⊎ (is.place ≡ place → ⊥) → e.stands part.element (behavior_at w.scripted.m part.number) (w.scripted.m.took part.number) ⊎ HasFallen w.scripted.m (Some fault) part
-        by (inl same) =
-            let failed = met.failed w.scripted.m (w.scripted.has.run.net.tied place met.before met.at) in
-            let task = some_same (sym is.at ∙ ap (slice_get last) same ∙ met.at_after) in
-            part_behind w.scripted.m was.tells met.over met.before met.after is.within part
-            (subst (λ (t : Task S E I O L s e i o). slice_get t.parts.items is.within ≡ Some part) task is.is) failed.origin fault failed.fails
-        by (inr other) =
-            let tied = w.scripted.has.run.net.tied is.place is.task (sym (met.others is.place other) ∙ is.at) in
-            inl (tied.parts_tied.each is.within part is.is).stood
-
-    each_behind : (p : ℕ) → HasPad was.tasks p → HasPad last p
-    each_behind p pad = by (cases_eq pad.place place)
-      where
-        by : (pad.place ≡ place) ⊎ (pad.place ≡ place → ⊥) → HasPad last p
-        by (inl same) = record {
-          place = place;
-          task = met.after;
-          at = met.at_after;
-          wire = pad.wire;
-          is = subst (λ (f : TaskFrame). IsWire f pad.wire) (ap (λ (t : Task S E I O L s e i o). frame_of t) (some_same (sym pad.at ∙ ap (slice_get was.tasks) same ∙ met.at)) ∙ sym met.frame) pad.is;
-          number = pad.number;
-        }
-        by (inr other) = record { place = pad.place; task = pad.task; at = met.others pad.place other ∙ pad.at; wire = pad.wire; is = pad.is; number = pad.number }
+  -- no fault was met, as is not so here
+  none_met : (was : ScriptRun s e i o) (m : Moment) (is : Running S E I O L s e i o) (fault : TaskFault) → Some fault ≡ None → IsAtRest was m is
+  none_met was m is fault none = absurd (none_some (sym none))
 
   -- a fault at a step
   at_step : (was is : Running S E I O L s e i o) (place : ℕ) (fault : TaskFault) → IsRunOf contents script first was → HasMet place fault was.tasks.items is.tasks.items (tells_of was) → KeepsControl (view_of was) (view_of is)
@@ -379,6 +279,7 @@ module _ {S E I O L : Type 0} {s : sources.Ghosts S} {e : elements.Ghosts E} {i 
     each = each_behind (view_of was) w.evaluated is.tasks.items place fault met;
     frames = frames_behind (view_of was) w.evaluated is.tasks.items place fault met;
     parts = parts_behind (view_of was) w.evaluated is.tasks.items place fault met;
+    rests = none_met (view_of was) w.evaluated.scripted.m is fault;
   }
 
   -- or as each was tried
@@ -399,6 +300,7 @@ module _ {S E I O L : Type 0} {s : sources.Ghosts S} {e : elements.Ghosts E} {i 
         each = each_behind mid z.run is.tasks.items met.place fault met.met;
         frames = frames_behind mid z.run is.tasks.items met.place fault met.met;
         parts = parts_behind mid z.run is.tasks.items met.place fault met.met;
+        rests = none_met mid z.run.scripted.m is fault;
       }
 
   pub at_stop : TurnsKeepEvaluated s e i o → {t : Ghosts (Running S E I O L s e i o) RunFault} → (last : Running S E I O L s e i o) (stop : Stopped)

@@ -50,6 +50,8 @@ mod Elements
 mod ScriptEntries
 mod AtOpening
 mod ScriptCounts
+mod SinkAnswers
+mod ShortFiles
 mod ScriptTold
 mod ScriptReports
 mod ScriptBegun
@@ -63,4 +65,9 @@ pub mod Writes
 pub mod Quiet
 mod LeftOver
 mod AsideRuns
+mod BehindFault
 mod EvaluatedRuns
+mod OverLinks
+mod ScriptSettled
+mod ScriptOver
+mod ScriptWhole

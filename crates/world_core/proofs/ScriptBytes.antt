@@ -43,7 +43,7 @@ use Rattle.task_elements.specs.Stands.{file_in, len_in}
 use Rattle.task_elements.specs.declared.element.StreamElement.{StreamElement}
 use Rattle.task_elements.specs.declared.source.StreamSource.{StreamSource}
 use Rattle.task_parts.specs.declared.fault.TaskFault.{TaskFault}
-use Rattle.task_parts.specs.declared.fault.TaskFault.TheVariants.{OutOfMemory, WriteFault}
+use Rattle.task_parts.specs.declared.fault.TaskFault.TheVariants.{OutOfMemory}
 use Rattle.edit_acts.specs.Evaluated.{OweInOrder, RunsAreEvaluated as HistoriesAreEvaluated}
 use Rattle.edit_acts.specs.Files.{HoldsFile, Holder}
 use Rattle.edit_acts.proofs.Files.{one_first, one_second}
@@ -60,6 +60,7 @@ use Rattle.world_core.proofs.Returned.{asked_at, no_read, written_here}
 use Rattle.world_core.proofs.ScriptFiles.{aside_at, back_at, last_file, part_holds, put_twice, removed_file, same_framed, was_held, written}
 use Rattle.world_core.proofs.ScriptHeld.{came, is_written, IsWritten}
 use Rattle.world_core.proofs.ScriptTold.{FilesTold}
+use Rattle.world_core.proofs.ShortFiles.{HoldsShort}
 use Rattle.world_core.proofs.Traced.{PartAt, taken_from}
 
 module _ {S K I O L : Type 0} {giver : givers.Ghosts (StreamSource S)} {taker : elements.Ghosts (StreamElement K)} {i : inlets.Ghosts I L O} {o : outlets.Ghosts O L}
@@ -191,7 +192,7 @@ module _ {S K I O L : Type 0} {giver : givers.Ghosts (StreamSource S)} {taker : 
         → (end : Known) × (slice_get (known_ends s k ends) d ≡ Some (Some end)) × ForSome end.bytes (λ file. file ≡ bytes)
     pub size : (m : Made) (location : List ℕ) → slice_get (made_in graph) d ≡ Some m → opening_of m.settings ≡ Some (Write location) → slice_get lengths d ≡ Some (length bytes)
     pub so : ((m : Made) → slice_get (made_in graph) d ≡ Some m → bytes ≡ sink_bytes (keeps_flushed m.settings) (came k streams law contents script (line_graph graph) met last w memory d))
-        ⊎ ((m : Made) × (location : List ℕ) × (a : ℕ) × (b : ℕ) × (slice_get (made_in graph) d ≡ Some m) × (opening_of m.settings ≡ Some (Write location)) × (met ≡ Some (WriteFault d a b)))
+        ⊎ HoldsShort g w.of.scripted.m.history w.of.scripted.due met d bytes
 
   -- all that came to an element, written by its settings
   abbrev all_of : ℕ → Made → List ℕ
@@ -229,11 +230,11 @@ module _ {S K I O L : Type 0} {giver : givers.Ghosts (StreamSource S)} {taker : 
         so = so held.so;
       }
     where
-      so : ((its_bytes d m location here opens).bytes ≡ all_of d m) ⊎ ((a : ℕ) × (b : ℕ) × (met ≡ Some (WriteFault d a b)))
+      so : ((its_bytes d m location here opens).bytes ≡ all_of d m) ⊎ HoldsShort g w.of.scripted.m.history w.of.scripted.due met d (its_bytes d m location here opens).bytes
           → ((n : Made) → slice_get (made_in graph) d ≡ Some n → (its_bytes d m location here opens).bytes ≡ all_of d n)
-          ⊎ ((n : Made) × (l : List ℕ) × (a : ℕ) × (b : ℕ) × (slice_get (made_in graph) d ≡ Some n) × (opening_of n.settings ≡ Some (Write l)) × (met ≡ Some (WriteFault d a b)))
+          ⊎ HoldsShort g w.of.scripted.m.history w.of.scripted.due met d (its_bytes d m location here opens).bytes
       so (inl is) = inl (λ n at. is ∙ ap (λ (x : Made). all_of d x) (some_same (sym here ∙ at)))
-      so (inr short) = inr (m, location, short.0, short.1, here, opens, short.2)
+      so (inr short) = inr short
 
   pub file_of : (d : ℕ) → FileOf d
   file_of d = by (slice_get (made_in graph) d) refl
@@ -263,11 +264,10 @@ module _ {S K I O L : Type 0} {giver : givers.Ghosts (StreamSource S)} {taker : 
   }
     where
       by : (d : ℕ) → ((m : Made) → slice_get (made_in graph) d ≡ Some m → bytes_of d ≡ all_of d m)
-          ⊎ ((m : Made) × (location : List ℕ) × (a : ℕ) × (b : ℕ) × (slice_get (made_in graph) d ≡ Some m) × (opening_of m.settings ≡ Some (Write location)) × (met ≡ Some (WriteFault d a b)))
-          → IsWrittenBy g w.of.scripted.m.history bytes_of d
-          ⊎ ((m : Made) × (location : List ℕ) × (a : ℕ) × (b : ℕ) × (slice_get g.made d ≡ Some m) × (opening_of m.settings ≡ Some (Write location)) × (met ≡ Some (WriteFault d a b)))
+          ⊎ HoldsShort g w.of.scripted.m.history w.of.scripted.due met d (bytes_of d)
+          → IsWrittenBy g w.of.scripted.m.history bytes_of d ⊎ HoldsShort g w.of.scripted.m.history w.of.scripted.due met d (bytes_of d)
       by d (inl is) = inl (λ m at writing. is m (now_here d m at))
-      by d (inr (m, location, a, b, at, opens, is)) = inr (m, location, a, b, ap (λ (made : List Made). slice_get made d) line ∙ at, opens, is)
+      by d (inr short) = inr short
 
 module _ {S K I O L : Type 0} {giver : givers.Ghosts (StreamSource S)} {taker : elements.Ghosts (StreamElement K)} {i : inlets.Ghosts I L O} {o : outlets.Ghosts O L}
     (s : sources.Ghosts S) (k : sinks.Ghosts K) (taken : (x : StreamElement K) → taker.file x ≡ option_map k.location (file_in x))

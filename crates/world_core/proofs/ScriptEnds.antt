@@ -122,7 +122,7 @@ module _ {S E I O L : Type 0} {s : givers.Ghosts S} {e : elements.Ghosts E} {i :
       pub script_ended : (before : Seen) (Holds : (ℕ → List ℕ) → Type 0) → ((contents : ℕ → List ℕ) → WereTold (made_in graph) before contents → IsRunOf contents script (line_graph graph) first)
           → (ran : Result (Unit {0}) RunFault) (own : Stop) → ScriptStops ended ran own → OnOk ran (HasRunTo t turns next first last) → IfErr ran (HasMetIn t turns next first last)
           → (end : WorldEnd) → end.status ≡ stop_status own → end.report.entries ≡ ended.entries.items
-          → ((contents : ℕ → List ℕ) → IsRunOf contents script (line_graph graph) first → All (λ c. names_its_pad c ≡ true) script → IsEditedReport contents graph script Holds end.report ⊎ FailsInEdit end)
+          → ((contents : ℕ → List ℕ) → IsRunOf contents script (line_graph graph) first → All (λ c. names_its_pad c ≡ true) script → IsEditedReport contents graph script Holds end ⊎ FailsInEdit end)
           → ScriptEnded graph script before Holds end
       script_ended before Holds evaluated ran own stops over met end status told reported = record {
         all = λ none. ap length told ∙ all_answered ran own stops over (sym status ∙ none);
@@ -137,7 +137,7 @@ pub script_with : (graph : Graph) (script : List Command) (before : Seen) (Holds
     → ScriptEnded graph script before Other end
 script_with graph script before Holds Other end more ended = record { all = ended.all; answered = ended.answered; told = λ contents were names. by contents (ended.told contents were names) }
   where
-    by : (contents : ℕ → List ℕ) → IsEditedReport contents graph script Holds end.report ⊎ FailsInEdit end → IsEditedReport contents graph script Other end.report ⊎ FailsInEdit end
+    by : (contents : ℕ → List ℕ) → IsEditedReport contents graph script Holds end ⊎ FailsInEdit end → IsEditedReport contents graph script Other end ⊎ FailsInEdit end
     by contents (inr fails) = inr fails
     by contents (inl one) = inl (record {
       last = one.last;
@@ -152,4 +152,6 @@ script_with graph script before Holds Other end more ended = record { all = ende
       sinks = one.sinks;
       files = more one.bytes one.files;
       written = one.written;
+      faultless = one.faultless;
+      whole = one.whole;
     })

@@ -1,26 +1,23 @@
 -- What the files of a run of a script hold where it has stopped: all that their links gave them, but one of which a write failed.
-use Rattle.std.proofs.Common.{◌≡◌, ◌≢◌, ◌⊎◌, ◌<◌, ◌||◌, ℕ, Bool, true, false, if◌then◌else◌, List, [], ◌∷◌, Option, Some, Ok, length, refl, sym, ap, ◌∙◌, subst, inl, inr}
-use Rattle.std.specs.Prelude.{get_or, map, slice_get}
+use Rattle.std.proofs.Common.{◌≡◌, ◌≢◌, ◌⊎◌, ◌<◌, ℕ, Bool, true, false, List, [], ◌∷◌, Option, Some, length, refl, sym, ap, ◌∙◌, subst, inl, inr}
+use Rattle.std.specs.Prelude.{slice_get, take}
 use Rattle.std.specs.Option.{option_map, option_map_or}
 use Rattle.std.proofs.lemmas.Bool.{true≢false}
 use Rattle.std.proofs.lemmas.Option.{slice_get-map}
 use Rattle.el_set.specs.Made.{keeps_flushed}
-use Rattle.el_set.proofs.Fed.{inlets_no_sink}
-use Rattle.el_settings.specs.Asked.{is_queue, is_source, makes_sinks}
-use Rattle.flow_model.specs.Call.{Call, feeds, items}
+use Rattle.el_settings.specs.Asked.{is_source}
+use Rattle.flow_model.specs.Call.{feeds, items}
 use Rattle.flow_model.specs.Feeding.{IsFaultOf}
-use Rattle.flow_model.specs.Item.{Item}
-use Rattle.flow_model.specs.Link.{Span, input_of}
+use Rattle.flow_model.specs.Item.{Item, body_of}
 use Rattle.flow_model.specs.Moment.{Behavior, Moment, behavior_at}
 use Rattle.flow_model.specs.Refuses.{RefusesBy}
-use Rattle.flow_model.specs.SinkBytes.{sink_bytes}
+use Rattle.flow_model.specs.SinkBytes.{disk_after, sink_bytes}
 use Rattle.flow_model.specs.declared.element.TaskElement as elements
 use Rattle.flow_model.specs.declared.source.TaskSource as givers
 use Rattle.flow_model.specs.declared.fault.ElementFault.{ElementFault}
-use Rattle.flow_model.specs.declared.fault.ElementFault.TheVariants as own_faults
 use Rattle.flow_model.specs.declared.refusal.Refusal.{Refusal}
 use Rattle.flow_model.specs.declared.refusal.Refusal.TheVariants.{Fault, Unwritten}
-use Rattle.flow_model.proofs.Items.{items_feeds}
+use Rattle.gst_outside.specs.Bytes.{written}
 use Rattle.gst_outside.specs.declared.sink.Sink as sinks
 use Rattle.gst_value.proofs.Basics.{none_some, some_same}
 use Rattle.gst_value.proofs.Places.{map_got}
@@ -28,7 +25,6 @@ use Rattle.graph_core.specs.Allowed.{first_pad}
 use Rattle.graph_core.specs.Elements.{Made, has}
 use Rattle.graph_edits.specs.Edited.{Edited, is_there}
 use Rattle.graph_edits.specs.Plans.{items_at}
-use Rattle.graph_edits.specs.Refused.{has_lanes}
 use Rattle.graph_parts.specs.Back.{HasPart}
 use Rattle.graph_parts.specs.Put.{Among}
 use Rattle.graph_parts.proofs.OwnFiles.{IsWriter}
@@ -49,47 +45,12 @@ use Rattle.task_parts.specs.declared.fault.TaskFault.{TaskFault}
 use Rattle.task_parts.specs.declared.fault.TaskFault.TheVariants.{OutOfMemory, WriteFault}
 use Rattle.task_parts.specs.declared.part.Part.{Part}
 use Rattle.edit_acts.specs.Evaluated.{RunsAreEvaluated as HistoriesAreEvaluated}
-use Rattle.world_core.specs.Evaluated.{HasFallen, IsPartOf, IsRunAt}
+use Rattle.world_core.specs.Evaluated.{HasFallen, IsPartOf, IsRunAt, WasAt}
 use Rattle.world_core.specs.declared.running.Running.{Running}
 use Rattle.world_core.proofs.Members.{mapped}
+use Rattle.world_core.proofs.ShortFiles.{HoldsShort, IsNextAt, next_at}
+use Rattle.world_core.proofs.SinkAnswers.{one_given, sink_alone, takes_none, writer_opens}
 use Rattle.world_core.proofs.Traced.{part_back}
-
--- an element that takes all has no fault but want of memory
-takes_none : (took : List (List Call)) (pad : ℕ) (x : Item) (fault : ElementFault) → IsFaultOf (takes_all.answers took pad x) fault → fault ≡ own_faults.OutOfMemory
-takes_none took pad x fault is = go _ fault is
-  where
-    go : (over : Bool) (f : ElementFault) → IsFaultOf (if over then Ok [] else Ok (x ∷ [])) f → f ≡ own_faults.OutOfMemory
-    go true (own_faults.NotNegotiated offered wanted) e = absurd (cc)
-    go false (own_faults.NotNegotiated offered wanted) e = absurd (cc)
-    go true (own_faults.BadStream place kind) e = absurd (cc)
-    go false (own_faults.BadStream place kind) e = absurd (cc)
-    go true (own_faults.TooLong a b) e = absurd (cc)
-    go false (own_faults.TooLong a b) e = absurd (cc)
-    go over own_faults.OutOfMemory e = refl
-
--- what its only sink pad was given is what a sink took
-one_given : (h : ℕ → List Item) (spans : List (List Span)) (list : List Item) → map (input_of h) spans ≡ feeds list ∷ [] → items (input_of h (get_or spans 0 [])) ≡ list
-one_given h [] list is = absurd (no is)
-  where
-    no : [] ≡ feeds list ∷ [] → ⊥
-    no e = cc
-one_given h (one ∷ []) list is = ap items (first is) ∙ items_feeds list
-  where
-    first : input_of h one ∷ [] ≡ feeds list ∷ [] → input_of h one ≡ feeds list
-    first e = cc
-one_given h (one ∷ other ∷ more) list is = absurd (no is)
-  where
-    no : input_of h one ∷ input_of h other ∷ map (input_of h) more ≡ feeds list ∷ [] → ⊥
-    no e = cc
-
--- no lanes feed a sink
-sink_alone : (g : Edited) (d : ℕ) (one : Made) (location : List ℕ) → slice_get g.made d ≡ Some one → IsWriter one.settings location → has_lanes g d ≡ false
-sink_alone g d one location here own =
-    ap (λ (found : Option Made). option_map_or (λ (m : Made). is_queue m.settings) found false || option_map_or (λ (m : Made). makes_sinks m.settings) found false) here ∙ by (is_queue one.settings || makes_sinks one.settings) refl
-  where
-    by : (b : Bool) → (is_queue one.settings || makes_sinks one.settings) ≡ b → (is_queue one.settings || makes_sinks one.settings) ≡ false
-    by true fed = absurd (true≢false (sym own.sink ∙ inlets_no_sink one.settings fed))
-    by false is = is
 
 module _ {S K I O L : Type 0} {giver : givers.Ghosts (StreamSource S)} {taker : elements.Ghosts (StreamElement K)} {i : inlets.Ghosts I L O} {o : outlets.Ghosts O L}
     (k : sinks.Ghosts K) (streams : AreStreams k taker) (law : HistoriesAreEvaluated giver taker i o) (contents : ℕ → List ℕ) (script : List Command) (begun : Edited) (met : Option TaskFault)
@@ -110,6 +71,7 @@ module _ {S K I O L : Type 0} {giver : givers.Ghosts (StreamSource S)} {taker : 
     pub second : ℕ
     pub is : met ≡ Some (WriteFault d first second)
     pub item : Item
+    pub next : IsNextAt g m.history w.of.scripted.due d item
     pub part : HasShort k x (came d) item
 
   module _ (d : ℕ) (one : Made) (location : List ℕ) (here : slice_get g.made d ≡ Some one) (own : IsWriter one.settings location) (low : d < length g.made) where
@@ -122,35 +84,20 @@ module _ {S K I O L : Type 0} {giver : givers.Ghosts (StreamSource S)} {taker : 
     held x behavior stands = has_all k behavior (m.took d) (w.of.scripted.has.run.net.first d).0 (came d) (λ is list took. took_all list took) x (streams.stands x behavior (m.took d) stands)
 
     -- one that refused an item fell short of it
-    module _ (x : StreamElement K) (pad : ℕ) (item : Item) where
+    module _ (x : StreamElement K) (pad : ℕ) (item : Item) (is_next : IsNextAt g m.history w.of.scripted.due d item) where
       of_refusal : (refusal : Refusal) → met ≡ Some (refusal_fault d refusal) → RefusesBy (behavior_at m d) (m.took d) pad item refusal → behavior_at m d ≡ takes_all → HasShort k x (came d) item
           → HasAll k x (came d) ⊎ IsShort d x
-      of_refusal (Unwritten a b) is why all part = inr (record { first = a; second = b; is = is; item = item; part = part })
+      of_refusal (Unwritten a b) is why all part = inr (record { first = a; second = b; is = is; item = item; next = is_next; part = part })
       of_refusal (Fault own_fault) is why all part =
           let none = takes_none (m.took d) pad item own_fault (subst (λ (b : Behavior). IsFaultOf (b.answers (m.took d) pad item) own_fault) all why) in
           absurd (memory (is ∙ ap (λ (f : ElementFault). Some (refusal_fault d (Fault f))) none))
 
-    of_kind : (x : StreamElement K) (pad : ℕ) (item : Item) (refusal : Refusal) → met ≡ Some (refusal_fault d refusal) → RefusesBy (behavior_at m d) (m.took d) pad item refusal
+    of_kind : (x : StreamElement K) (pad : ℕ) (item : Item) → IsNextAt g m.history w.of.scripted.due d item → (refusal : Refusal) → met ≡ Some (refusal_fault d refusal) → RefusesBy (behavior_at m d) (m.took d) pad item refusal
         → StreamFell k.bytes x (behavior_at m d) (m.took d) pad item → HasAll k x (came d) ⊎ IsShort d x
-    of_kind (kinds.Sink sink) pad item refusal is why fell =
-        of_refusal (kinds.Sink sink) pad item refusal is why fell.behavior_is
+    of_kind (kinds.Sink sink) pad item is_next refusal is why fell =
+        of_refusal (kinds.Sink sink) pad item is_next refusal is why fell.behavior_is
         (has_part k (behavior_at m d) (m.took d) (w.of.scripted.has.run.net.first d).0 (came d) (λ is list took. took_all list took) item sink fell)
-    of_kind _ pad item refusal is why fell = inl (λ keep file is. absurd (none_some is))
-
-    part_held : (part : Part (StreamElement K) O taker) → IsPartOf run.tasks.items part → part.number ≡ d → HasAll k part.element (came d) ⊎ IsShort d part.element
-    part_held part is number = by (w.parts part is)
-      where
-        by : taker.stands part.element (behavior_at m part.number) (m.took part.number) ⊎ HasFallen m met part → HasAll k part.element (came d) ⊎ IsShort d part.element
-        by (inl stands) = inl (held part.element (behavior_at m d) (subst (λ (n : ℕ). taker.stands part.element (behavior_at m n) (m.took n)) number stands))
-        by (inr f) =
-            of_kind part.element f.pad f.item f.refusal (f.is ∙ ap (λ (n : ℕ). Some (refusal_fault n f.refusal)) number)
-            (subst (λ (n : ℕ). RefusesBy (behavior_at m n) (m.took n) f.pad f.item f.refusal) number f.why)
-            (streams.fell part.element (behavior_at m d) (m.took d) f.pad f.item (subst (λ (n : ℕ). taker.fell part.element (behavior_at m n) (m.took n) f.pad f.item) number f.fell))
-
-    gone_held : (part : Part (StreamElement K) O taker) → IsPartOf run.removed.items part → part.number ≡ d → HasAll k part.element (came d)
-    gone_held part is number =
-        let z = w.aside.parts part is in
-        held part.element z.2.0 (subst (λ (n : ℕ). taker.stands part.element z.2.0 (m.took n)) number z.2.1)
+    of_kind _ pad item is_next refusal is why fell = inl (λ keep file is. absurd (none_some is))
 
     -- ---- the element is there, once
 
@@ -213,6 +160,27 @@ module _ {S K I O L : Type 0} {giver : givers.Ghosts (StreamSource S)} {taker : 
     gone_of : (part : Part (StreamElement K) O taker) → IsPartOf run.removed.items part → part.number ≡ d → is_there g d ≡ false
     gone_of part is number = sym (ap (is_there g) number) ∙ (w.aside.parts part is).1
 
+    -- ---- it fell short, or has all
+
+    part_held : (part : Part (StreamElement K) O taker) → IsPartOf run.tasks.items part → part.number ≡ d → HasAll k part.element (came d) ⊎ IsShort d part.element
+    part_held part is number = by (w.parts part is)
+      where
+        by : taker.stands part.element (behavior_at m part.number) (m.took part.number) ⊎ HasFallen m w.was.tasks met part → HasAll k part.element (came d) ⊎ IsShort d part.element
+        by (inl stands) = inl (held part.element (behavior_at m d) (subst (λ (n : ℕ). taker.stands part.element (behavior_at m n) (m.took n)) number stands))
+        by (inr f) =
+            let was = subst (λ (n : ℕ). WasAt m w.was.tasks n f.pad f.item) number f.was_at in
+            of_kind part.element f.pad f.item (next_at contents script begun w.was w.of d f.pad f.item (there_of part is number) (sink_alone g d one location here own) was)
+            f.refusal (f.is ∙ ap (λ (n : ℕ). Some (refusal_fault n f.refusal)) number)
+            (subst (λ (n : ℕ). RefusesBy (behavior_at m n) (m.took n) f.pad f.item f.refusal) number f.why)
+            (streams.fell part.element (behavior_at m d) (m.took d) f.pad f.item (subst (λ (n : ℕ). taker.fell part.element (behavior_at m n) (m.took n) f.pad f.item) number f.fell))
+
+    gone_held : (part : Part (StreamElement K) O taker) → IsPartOf run.removed.items part → part.number ≡ d → HasAll k part.element (came d)
+    gone_held part is number =
+        let z = w.aside.parts part is in
+        held part.element z.2.0 (subst (λ (n : ℕ). taker.stands part.element z.2.0 (m.took n)) number z.2.1)
+
+    -- ---- where it is
+
     no_source : has is_source g.made d ≡ false
     no_source = ap (λ (found : Option Made). option_map_or (λ (x : Made). is_source x.settings) found false) here ∙ own.no_source
 
@@ -245,7 +213,7 @@ module _ {S K I O L : Type 0} {giver : givers.Ghosts (StreamSource S)} {taker : 
       pub bytes : List ℕ
       pub some : (x : StreamElement K) × IsElement x
       pub holds : (x : StreamElement K) → IsElement x → (file : K) → file_in x ≡ Some file → HoldsBytes k x file bytes
-      pub so : (bytes ≡ sink_bytes (keeps_flushed one.settings) (came d)) ⊎ ((a : ℕ) × (b : ℕ) × (met ≡ Some (WriteFault d a b)))
+      pub so : (bytes ≡ sink_bytes (keeps_flushed one.settings) (came d)) ⊎ HoldsShort g m.history w.of.scripted.due met d bytes
 
     module _ (files : (x : StreamElement K) → IsElement x → (file : K) × (file_in x ≡ Some file)) where
       part_in : (tasks : List (Task (StreamSource S) (StreamElement K) I O L giver taker i o)) (x : StreamElement K) → Among HasPart tasks d x
@@ -278,12 +246,25 @@ module _ {S K I O L : Type 0} {giver : givers.Ghosts (StreamSource S)} {taker : 
             let same : part.element ≡ x = ap (λ (y : Part (StreamElement K) O taker). y.element) (one_part part p.0 is p.1 number p.2) ∙ p.3 in
             subst (λ (y : StreamElement K). HoldsBytes k y file bytes) same (it file (ap (λ (y : StreamElement K). file_in y) same ∙ there))
 
-        short_bytes : (bytes : List ℕ) (file : K) → file_in part.element ≡ Some file → HoldsBytes k part.element file bytes → IsShort d part.element → IsWritten
-        short_bytes bytes file there holds short = record {
+        short_bytes : (count : ℕ) (bytes : List ℕ) (file : K) → file_in part.element ≡ Some file → HoldsBytes k part.element file bytes → (short : IsShort d part.element)
+            → (let disk = disk_after (keeps_flushed one.settings) (came d) in bytes ≡ written disk.bytes disk.place (take count (body_of short.item))) → IsWritten
+        short_bytes count bytes file there holds short same = record {
           bytes = bytes;
           some = (part.element, inl (in_part run.tasks.items part is number));
           holds = of_there bytes (λ other at. subst (λ (f : K). HoldsBytes k part.element f bytes) (some_same (sym there ∙ at)) holds);
-          so = inr (short.first, short.second, short.is);
+          so = inr (record {
+            element = one;
+            at = here;
+            location = location;
+            opens = writer_opens one.settings location own;
+            first = short.first;
+            second = short.second;
+            is = short.is;
+            item = short.item;
+            next = short.next;
+            part = count;
+            bytes_are = same;
+          });
         }
 
         of_part : HasAll k part.element (came d) ⊎ IsShort d part.element → IsWritten
@@ -296,7 +277,7 @@ module _ {S K I O L : Type 0} {giver : givers.Ghosts (StreamSource S)} {taker : 
         of_part (inr short) =
             let own_file = files part.element (inl (in_part run.tasks.items part is number)) in
             let z = short.part (keeps_flushed one.settings) own_file.0 own_file.1 in
-            short_bytes _ own_file.0 own_file.1 z.1 short
+            short_bytes z.0 _ own_file.0 own_file.1 z.1 short refl
 
       pub is_written : IsWritten
       is_written = by somewhere

@@ -1,5 +1,5 @@
 -- What is told of a run of a script that has ended.
-use Rattle.std.proofs.Common.{◌≡◌, ◌≢◌, ◌⊎◌, ◌*◌, ◌∙◌, ℕ, true, All, List, [], Option, None, Some, Result, IfErr, OnOk, inl, inr, length, sym, ap, subst}
+use Rattle.std.proofs.Common.{◌≡◌, ◌≢◌, ◌⊎◌, ◌*◌, ◌∙◌, ℕ, Bool, true, All, List, [], Option, None, Some, Result, IfErr, OnOk, refl, inl, inr, length, sym, ap, subst}
 use Rattle.std.specs.Prelude.{slice_get, unwrap_or}
 use Rattle.std.specs.Option.{option_map_or}
 use Rattle.el_settings.specs.Asked.{location_of}
@@ -10,6 +10,7 @@ use Rattle.graph_core.specs.Graph.{made as made_in}
 use Rattle.graph_core.specs.declared.graph.Graph.{Graph}
 use Rattle.graph_edits.specs.Graph.{made as made_of}
 use Rattle.graph_edits.specs.declared.graph.EditedGraph.{EditedGraph}
+use Rattle.graph_order.specs.Forward.{forward_of}
 use Rattle.graph_parts.specs.Counts.{TasksCounted}
 use Rattle.graph_parts.specs.Files.{opening_of}
 use Rattle.graph_parts.specs.Put.{PutBack}
@@ -32,10 +33,10 @@ use Rattle.turn_order.specs.declared.turns.Turns.{Turns}
 use Rattle.edit_core.specs.Deciding.{names_its_pad}
 use Rattle.edit_acts.specs.Evaluated.{OweInOrder, RunsAreEvaluated as HistoriesAreEvaluated}
 use Rattle.world_core.specs.Begins.{line_graph}
-use Rattle.world_core.specs.Evaluated.{EndsWithDone, IsEditedReport, IsRunAt, IsRunOf, RunsAreEvaluated}
+use Rattle.world_core.specs.Evaluated.{AreWhole, EndsWithDone, IsEditedReport, IsRunAt, IsRunOf, RunsAreEvaluated}
 use Rattle.world_core.specs.Ran.{TellsEnd as TellsReport, stop_fault, stop_status}
 use Rattle.world_core.specs.Running.{KeepsElements}
-use Rattle.world_core.specs.Scripts.{FailsInEdit, ScriptStops}
+use Rattle.world_core.specs.Scripts.{FailsInEdit, LiveIn, ScriptStops, TellsEnd}
 use Rattle.world_core.specs.Told.{pads_told, sinks_told, task_fault, task_status}
 use Rattle.world_core.specs.declared.ended.WorldEnd.{WorldEnd}
 use Rattle.world_core.specs.declared.report.Stop.{Stop}
@@ -79,7 +80,20 @@ module _ {S E I O L : Type 0} {s : givers.Ghosts S} {e : elements.Ghosts E} {i :
   module _ (histories : HistoriesAreEvaluated s e i o) (kept : KeepsElements first last) (line : made_of first.graph ≡ made_in graph) (tasks_are : ended.tasks ≡ last.tasks) (removed_is : ended.removed ≡ last.removed)
       (graph_is : ended.graph ≡ last.graph) (entries_are : ended.entries ≡ last.entries) (none mid counts : List Count) (size : length none ≡ length (made_in graph) * 64)
       (one : PutBack (TasksCounted ended.tasks.items) none mid) (other : PutBack (TasksCounted ended.removed.items) mid counts) (lengths : List ℕ) (Holds : (ℕ → List ℕ) → Type 0)
-      (files : (met : Option TaskFault) (w : IsRunAt contents script (line_graph graph) met last) → met ≢ Some tasks.OutOfMemory → FilesTold histories owes contents script graph met last w lengths Holds) where
+      (files : (met : Option TaskFault) (w : IsRunAt contents script (line_graph graph) met last) → met ≢ Some tasks.OutOfMemory → FilesTold histories owes contents script graph met last w lengths Holds)
+      (whole : (w : IsRunAt contents script (line_graph graph) None last) (live : ℕ → Bool) → LiveIn ended.graph live → TellsEnd ended live → (forward : List ℕ) → AreWhole contents w.of.scripted.g forward w.of.scripted.m.history) where
+    -- with status 0 no fault is told, and nothing is left
+    faultless : (made : List Made) (own : Stop) → stop_status own ≡ 0 → stop_fault made own ≡ faults.Nothing
+    faultless made (stops.Fault fault) none = absurd (faulty fault none)
+    faultless made stops.Over none = refl
+    faultless made (stops.Stalled command told) none = absurd (cc)
+
+    all_whole : (ran : Result (Unit {0}) RunFault) (own : Stop) → ScriptStops ended ran own → (w : IsRunAt contents script (line_graph graph) (met_of own) last) → stop_status own ≡ 0 → (forward : List ℕ)
+        → AreWhole contents w.of.scripted.g forward w.of.scripted.m.history
+    all_whole _ _ (ScriptStops.at_fault stopped fault same) w none forward = absurd (faulty fault none)
+    all_whole _ _ (ScriptStops.over live live_is told) w none forward = whole w live live_is told forward
+    all_whole _ _ (ScriptStops.stalled live told live_is other tells) w none forward = absurd (cc)
+
     -- where a write failed that is told
     fails_so : (made : List Made) (own : Stop) (d : ℕ) (m : Made) (location : List ℕ) (a b : ℕ) → slice_get made d ≡ Some m → opening_of m.settings ≡ Some (Write location) → met_of own ≡ Some (tasks.WriteFault d a b)
         → stop_fault made own ≡ faults.WriteFault location a b
@@ -99,14 +113,14 @@ module _ {S E I O L : Type 0} {s : givers.Ghosts S} {e : elements.Ghosts E} {i :
     -- so its report tells that
     pub script_reported : (ran : Result (Unit {0}) RunFault) (own : Stop) → ScriptStops ended ran own → OnOk ran (HasRunTo t turns next first last) → IfErr ran (HasMetIn t turns next first last)
         → (entries : List Entry) (end : WorldEnd) → entries ≡ ended.entries.items → TellsReport (made_of ended.graph) own counts lengths entries end → end.status ≢ 13
-        → IsEditedReport contents graph script Holds end.report ⊎ FailsInEdit end
+        → IsEditedReport contents graph script Holds end ⊎ FailsInEdit end
     script_reported ran own stops over met entries end same told some = by (stopped_at ran own stops over met)
       where
         entries_so : end.report.entries ≡ last.entries.items
         entries_so = told.entries_are ∙ same ∙ ap (λ es. es.items) entries_are
 
         by : IsRunAt contents script (line_graph graph) (met_of own) last ⊎ (EndsWithDone last.entries.items × (stop_status own ≢ 0) × (stop_status own ≢ 12))
-            → IsEditedReport contents graph script Holds end.report ⊎ FailsInEdit end
+            → IsEditedReport contents graph script Holds end ⊎ FailsInEdit end
         by (inr done) =
             inr (record {
               entries = subst (λ (es : List Entry). EndsWithDone es) (sym entries_so) done.0;
@@ -119,6 +133,8 @@ module _ {S E I O L : Type 0} {s : givers.Ghosts S} {e : elements.Ghosts E} {i :
             inl (edited_report histories owes contents script graph (met_of own) last at none mid counts (size ∙ ap (λ (n : ℕ). n * 64) same_size)
             (subst (λ (ts : List (Task S E I O L s e i o)). PutBack (TasksCounted ts) none mid) (ap (λ ts. ts.items) tasks_are) one)
             (subst (λ (ts : List (Task S E I O L s e i o)). PutBack (TasksCounted ts) mid counts) (ap (λ ts. ts.items) removed_is) other)
-            lengths Holds (files (met_of own) at (had_memory own (λ is. some (told.status ∙ is)))) end.report entries_so (told.pads_are ∙ ap (λ (made : List Made). pads_told made counts) ended_is)
+            lengths Holds (files (met_of own) at (had_memory own (λ is. some (told.status ∙ is)))) end entries_so (told.pads_are ∙ ap (λ (made : List Made). pads_told made counts) ended_is)
             (told.sinks_are ∙ ap (λ (made : List Made). sinks_told made lengths) ended_is)
-            (λ d m location a b here opens is. told.fault ∙ ap (λ (made : List Made). stop_fault made own) ended_is ∙ fails_so at.of.scripted.g.made own d m location a b here opens is))
+            (λ d m location a b here opens is. told.fault ∙ ap (λ (made : List Made). stop_fault made own) ended_is ∙ fails_so at.of.scripted.g.made own d m location a b here opens is)
+            (λ none. told.fault ∙ faultless (made_of ended.graph) own (sym told.status ∙ none))
+            (λ none. all_whole ran own stops at (sym told.status ∙ none) (forward_of at.was.graph.order)))

@@ -6,8 +6,9 @@ use Rattle.flow_model.specs.Moment.{Moment}
 use Rattle.flow_model.specs.Prefix.{IsPrefix}
 use Rattle.flow_model.specs.declared.element.TaskElement as elements
 use Rattle.flow_model.specs.declared.source.TaskSource as sources
-use Rattle.flow_model.proofs.Prefixes.{prefix_refl}
+use Rattle.flow_model.proofs.Prefixes.{prefix_refl, prefix_trans}
 use Rattle.graph_core.specs.Elements.{Made}
+use Rattle.graph_core.specs.GraphPlan.{pad_id}
 use Rattle.graph_core.specs.Links.{ways}
 use Rattle.graph_core.specs.declared.graph.Graph.{Graph}
 use Rattle.graph_edits.specs.Edited.{Edited}
@@ -27,18 +28,19 @@ use Rattle.lane_core.specs.declared.ends.Inlet as inlets
 use Rattle.lane_core.specs.declared.ends.Outlet as outlets
 use Rattle.run_files.specs.declared.end.Opening.TheVariants.{Write}
 use Rattle.run_report.specs.declared.report.Fault.TheVariants as faults
-use Rattle.run_report.specs.declared.report.Report.{Report}
 use Rattle.script_text.specs.declared.answer.Entry.{Entry}
 use Rattle.script_text.specs.declared.command.Command.{Command}
 use Rattle.task_parts.specs.declared.fault.TaskFault.{TaskFault}
 use Rattle.task_parts.specs.declared.fault.TaskFault.TheVariants.{WriteFault}
 use Rattle.edit_acts.specs.Evaluated.{OweInOrder, RunsAreEvaluated}
 use Rattle.world_core.specs.Begins.{line_graph}
-use Rattle.world_core.specs.Evaluated.{HasFailedToWrite, IsEditedReport, IsRunAt, IsWrittenBy, plan_at}
+use Rattle.world_core.specs.Evaluated.{AreWhole, HasFailedToWrite, IsEditedReport, IsRunAt, IsWrittenBy, plan_at}
 use Rattle.world_core.specs.Told.{pads_told, sink_entries, sinks_told}
+use Rattle.world_core.specs.declared.ended.WorldEnd.{WorldEnd}
 use Rattle.world_core.specs.declared.running.Running.{Running}
 use Rattle.world_core.proofs.Counted.{pads_are_told}
 use Rattle.world_core.proofs.ScriptCounts.{script_counted}
+use Rattle.world_core.proofs.ShortFiles.{HoldsShort}
 
 -- the graph of a run has its elements in an order in which each link goes forward
 is_order : (graph : EditedGraph) (g : Edited) → IsEdited graph g → IsOrder g (forward_of graph.order)
@@ -87,16 +89,16 @@ module _ {S E I O L : Type 0} {s : sources.Ghosts S} {e : elements.Ghosts E} {i 
     pub bytes : ℕ → List ℕ
     pub sinks : sinks_told last.made lengths ≡ sink_entries last.made bytes
     pub files : Holds bytes
-    pub written : (d : ℕ) → IsWrittenBy last now.history bytes d
-        ⊎ ((m : Made) × (location : List ℕ) × (a : ℕ) × (b : ℕ) × (slice_get last.made d ≡ Some m) × (opening_of m.settings ≡ Some (Write location)) × (met ≡ Some (WriteFault d a b)))
+    pub written : (d : ℕ) → IsWrittenBy last now.history bytes d ⊎ HoldsShort last now.history w.of.scripted.due met d (bytes d)
 
   -- Its counts are those of what crossed the pads, and its files those.
   pub edited_report : (none mid counts : List Count) → length none ≡ length last.made * 64 → PutBack (TasksCounted run.tasks.items) none mid → PutBack (TasksCounted run.removed.items) mid counts
-      → (lengths : List ℕ) (Holds : (ℕ → List ℕ) → Type 0) → FilesTold lengths Holds → (report : Report) → report.entries ≡ run.entries.items → report.pads ≡ pads_told last.made counts
-      → report.sinks ≡ sinks_told last.made lengths
-      → ((d : ℕ) (m : Made) (location : List ℕ) (a b : ℕ) → slice_get last.made d ≡ Some m → opening_of m.settings ≡ Some (Write location) → met ≡ Some (WriteFault d a b) → report.fault ≡ faults.WriteFault location a b)
-      → IsEditedReport contents graph script Holds report
-  edited_report none mid counts size one other lengths Holds told report entries pads sinks failed = record {
+      → (lengths : List ℕ) (Holds : (ℕ → List ℕ) → Type 0) → FilesTold lengths Holds → (end : WorldEnd) → end.report.entries ≡ run.entries.items → end.report.pads ≡ pads_told last.made counts
+      → end.report.sinks ≡ sinks_told last.made lengths
+      → ((d : ℕ) (m : Made) (location : List ℕ) (a b : ℕ) → slice_get last.made d ≡ Some m → opening_of m.settings ≡ Some (Write location) → met ≡ Some (WriteFault d a b) → end.report.fault ≡ faults.WriteFault location a b)
+      → (end.status ≡ 0 → end.report.fault ≡ faults.Nothing) → (end.status ≡ 0 → AreWhole contents last forward now.history)
+      → IsEditedReport contents graph script Holds end
+  edited_report none mid counts size one other lengths Holds told end entries pads sinks failed faultless whole = record {
     last = last;
     forward = forward;
     order = order;
@@ -109,10 +111,27 @@ module _ {S E I O L : Type 0} {s : sources.Ghosts S} {e : elements.Ghosts E} {i 
     sinks = sinks ∙ told.sinks;
     files = told.files;
     written = λ d. by d (told.written d);
+    faultless = faultless;
+    whole = whole;
   }
     where
-      by : (d : ℕ) → IsWrittenBy last now.history told.bytes d
-          ⊎ ((m : Made) × (location : List ℕ) × (a : ℕ) × (b : ℕ) × (slice_get last.made d ≡ Some m) × (opening_of m.settings ≡ Some (Write location)) × (met ≡ Some (WriteFault d a b)))
-          → IsWrittenBy last now.history told.bytes d ⊎ HasFailedToWrite last.made report d
+      by : (d : ℕ) → IsWrittenBy last now.history told.bytes d ⊎ HoldsShort last now.history w.of.scripted.due met d (told.bytes d)
+          → IsWrittenBy last now.history told.bytes d ⊎ HasFailedToWrite contents last forward now.history told.bytes end.report d
       by d (inl is) = inl is
-      by d (inr (m, location, a, b, at, opens, is)) = inr (record { element = m; at = at; location = location; opens = opens; first = a; second = b; fault = failed d m location a b at opens is })
+      by d (inr short) = inr (record {
+        element = short.element;
+        at = short.at;
+        location = short.location;
+        opens = short.opens;
+        first = short.first;
+        second = short.second;
+        fault = failed d short.element short.location short.first short.second short.at short.opens short.is;
+        part = record {
+          source = short.next.source;
+          linked = short.next.linked;
+          item = short.item;
+          next = prefix_trans short.next.next (grows.due (pad_id short.next.source));
+          part = short.part;
+          bytes_are = short.bytes_are;
+        };
+      })

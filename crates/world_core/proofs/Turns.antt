@@ -13,12 +13,17 @@ module _ {T F : Type 0} (t : Ghosts T F) (P : T → Type 0) (acts : (was is : T)
   stays order start first _ _ _ p (ByTurns.turn n idle place moved was is run waits few turn stepped) = turns was is place moved (stays order start first n idle was p run) stepped
   stays order start first _ _ _ p (ByTurns.tries n idle was is run waits still tried) = trials was is true (stays order start first n idle was p run) tried
 
--- so it is where such a run has ended
+-- so it is before the last trial of such a run
+pub before_end : {T F : Type 0} {t : Ghosts T F} (order : Order) (start : ℕ) (first : T) (next : Turns) (last : T) → (over : HasEnded t order start first next last) → (P : T → Type 0)
+    → (acts : (was is : T) → P was → t.acted was is → P is) → (turns : (was is : T) (place : ℕ) (moved : Bool) → P was → t.stepped place moved was is → P is)
+    → (trials : (was is : T) (moved : Bool) → P was → t.tried moved was is → P is) → P first → P over.was
+before_end {t = t} order start first next last over P acts turns trials p = stays t P acts turns trials order start first over.number over.idle over.was p over.run
+
+-- and where it has ended
 pub ended : {T F : Type 0} {t : Ghosts T F} (order : Order) (start : ℕ) (first : T) (next : Turns) (last : T) → HasEnded t order start first next last → (P : T → Type 0)
     → (acts : (was is : T) → P was → t.acted was is → P is) → (turns : (was is : T) (place : ℕ) (moved : Bool) → P was → t.stepped place moved was is → P is)
     → (trials : (was is : T) (moved : Bool) → P was → t.tried moved was is → P is) → P first → P last
-ended {t = t} order start first next last over P acts turns trials p =
-    trials over.was last false (stays t P acts turns trials order start first over.number over.idle over.was p over.run) over.tried
+ended {t = t} order start first next last over P acts turns trials p = trials over.was last false (before_end order start first next last over P acts turns trials p) over.tried
 
 -- a fault was met so, behind what is so
 pub data Meets {T F : Type 0} (t : Ghosts T F) (P : T → Type 0) (last : T) (fault : F) : Type 0 where

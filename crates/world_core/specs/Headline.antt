@@ -55,7 +55,7 @@ pub record StopsAtScript (request : Request) (before after : Seen) (end : WorldE
 pub record CommandsEnded (graph : Graph) (commands : List Command) (before after : Seen) (end : WorldEnd) : Type 0 where
   pub all : end.status ≡ 0 → length end.report.entries ≡ length commands
   pub answered : (contents : ℕ → List ℕ) → WereTold (made_in graph) before contents → AnswersScript graph commands end.report.entries
-  pub told : (contents : ℕ → List ℕ) → WereTold (made_in graph) before contents → IsEditedReport contents graph commands (FilesHold graph after) end.report ⊎ FailsInEdit end
+  pub told : (contents : ℕ → List ℕ) → WereTold (made_in graph) before contents → IsEditedReport contents graph commands (FilesHold graph after) end ⊎ FailsInEdit end
 
 -- a run of a launch line with these commands, which were read, ended so
 abbrev pub EndsBy : Graph → List Command → Seen → Seen → WorldEnd → Type 0

@@ -171,7 +171,7 @@ pub record ScriptEnded (graph : Graph) (script : List Command) (before : Seen) (
   pub answered : (contents : ℕ → List ℕ) → WereTold (made_in graph) before contents → All (λ c. names_its_pad c ≡ true) script
       → AnswersScript graph script end.report.entries
   pub told : (contents : ℕ → List ℕ) → WereTold (made_in graph) before contents → All (λ c. names_its_pad c ≡ true) script
-      → IsEditedReport contents graph script Holds end.report ⊎ FailsInEdit end
+      → IsEditedReport contents graph script Holds end ⊎ FailsInEdit end
 
 abbrev pub IsScriptEnd : Graph → List Command → Seen → Seen → WorldEnd → Type 0
 IsScriptEnd graph script before after end = RunUnopened graph before after end ⊎ ScriptEnded graph script before (FilesHold graph after) end

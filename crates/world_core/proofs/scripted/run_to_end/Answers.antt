@@ -5,6 +5,7 @@ use Rattle.graph_edits.specs.Graph.{made as made_of}
 use Rattle.graph_edits.specs.declared.graph.EditedGraph.{EditedGraph}
 use Rattle.task_elements.proofs.RuleLaws.{owes_in_order}
 use Rattle.run_files.specs.Ends.{known_ends}
+use Rattle.world_core.specs.Begins.{line_graph}
 use Rattle.world_core.specs.Ran.{KnownHold}
 use Rattle.world_core.specs.Scripts.{ScriptStops}
 use Rattle.world_core.proofs.ScriptBegun.{script_ready}
@@ -12,6 +13,7 @@ use Rattle.world_core.proofs.ScriptBytes.{files_so}
 use Rattle.world_core.proofs.ScriptEnds.{run_kept, run_tried, script_ended, told_so}
 use Rattle.world_core.proofs.ScriptFiles.{located_so}
 use Rattle.world_core.proofs.ScriptReports.{script_reported}
+use Rattle.world_core.proofs.ScriptWhole.{ended_whole}
 use Rattle.world_core.proofs.scripted.run_to_end.Goals as goal
 
 pub run-ran-requires : goal.run-ran-requires
@@ -51,6 +53,10 @@ returns-in-Ok-clause-ended g c = λ graph script before begins some.
     (c.elements.ensures ∙ ap (λ (edited : EditedGraph). made_of edited) c.end-ended.ensures.control.0) (c.elements-2.ensures ∙ ap (λ (edited : EditedGraph). made_of edited) c.end-ended.ensures.control.0)
     c.new-nothing.result.items c.new-nothing.ensures.items c.take_back.new.ends.items c.take_back-2.new.ends.items c.take_back.ensures.ends c.take_back-2.ensures.ends
     c.args.counts.lengths.items c.take_back.new.lengths.items c.take_back-2.new.lengths.items (c.requires.begun.4.lengths_size ∙ ap (λ (made : List Made). length made) line) c.take_back.ensures.lengths c.take_back-2.ensures.lengths)
+    (λ at live live_is over forward.
+    ended_whole g.K.Sink (record { stands = λ x behavior took is. is; fell = λ x behavior took pad y is. is; failures = λ x. refl; ports = λ x. refl; wanted = λ x. refl }) c.runs_are_evaluated-2.ensures
+    (λ element behavior took stands. owes_in_order g.K.Sink.bytes element behavior took stands) contents script (line_graph graph) c.run-ran.new.all c.end-ended.result c.end-ended.ensures.tasks.0 c.end-ended.ensures.tasks.1
+    c.end-ended.ensures.control.0 c.end-ended.ensures.taking.1 at live live_is over forward)
     c.run-ran.result c.in-Ok.ensures.0 stops c.run-ran.ensures.ended c.run-ran.ensures.failed c.end-ended.result.entries.items c.in-Ok.end refl (rw (← c.as_slice-3.ensures.value, ← c.as_slice-4.ensures.value) c.in-Ok.ensures.2) some)
 
 pub returns-in-Ok-clause-located : goal.returns-in-Ok-clause-located
