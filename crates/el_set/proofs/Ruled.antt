@@ -11,13 +11,18 @@ use Rattle.el_mix.proofs.Plain.{mixes_open, mixes_plain}
 use Rattle.el_settings.specs.Asked.{makes_sinks}
 use Rattle.el_settings.specs.declared.settings.Settings.{Settings}
 use Rattle.el_settings.specs.declared.settings.Settings.TheVariants.{Concat, Interleave}
-use Rattle.el_set.specs.Denoted.{response_of, rule_of}
+use Rattle.el_set.specs.Denoted.{answers_by, answers_of, response_of, rule_of}
 use Rattle.flow_model.proofs.Items.{none_behind as section_none}
 
 pub single_rule : (s : Settings) → makes_sinks s ≡ false → rule_of s ≡ single (response_of s)
 single_rule (Interleave pads) one = absurd (cc)
 single_rule (Concat pads) one = absurd (cc)
 single_rule _ one = refl
+
+pub single_answers : (s : Settings) → makes_sinks s ≡ false → answers_of s ≡ answers_by (response_of s)
+single_answers (Interleave pads) one = absurd (cc)
+single_answers (Concat pads) one = absurd (cc)
+single_answers _ one = refl
 
 nothing_at : (sss : List (List Span)) → map {B = List Call} (λ spans. []) sss ≡ replicate (length sss) []
 nothing_at [] = refl

@@ -67,7 +67,7 @@ use Rattle.graph_tasks.proofs.EndedEos.{ended_has}
 use Rattle.graph_tasks.proofs.FedElements.{IsAsked, asked_at, fed_rule, not_asked}
 use Rattle.graph_tasks.proofs.FedHeads.{head_fed}
 use Rattle.graph_tasks.proofs.OverHeads.{row_count}
-use Rattle.graph_tasks.proofs.OverWants.{join_owes, join_wants, single_wants, stands_by, wanted_by}
+use Rattle.graph_tasks.proofs.OverWants.{join_answers_apart, join_wants, single_wants, stands_by, wanted_by}
 use Rattle.graph_tasks.proofs.StuckRows.{few_pads, row_awaits}
 use Rattle.graph_tasks.proofs.StuckTaken.{InParts, IsTakenAt, came_first, came_taken, parts_at, taken_here, took_is}
 use Rattle.graph_tasks.proofs.StuckWaits.{head_is, nothing_waits, owed_is, took}
@@ -170,7 +170,7 @@ module _ {S K I O L : Type 0} (k : sinks.Ghosts K) {s : sources.Ghosts S} {e : e
       queue false false single is = absurd (cc)
 
       kind : (joins : Bool) → joins_in graph n ≡ joins → (is_join wants.element ≡ true) ⊎ PassesEach (behavior_at m n).owes
-      kind true joins = inl (told_join k.bytes wants.element (behavior_at m n) (m.took n) stands (join_owes k streams contents graph bags m tasks tells at n joins))
+      kind true joins = inl (told_join k.bytes wants.element (behavior_at m n) (m.took n) stands (join_answers_apart k streams contents graph bags m tasks tells at n joins))
       kind false single =
           let alone = not_asked makes_sinks (made_in graph) n one.element one.at single in
           let passes = queues_pass one.element.settings (queue (is_queue one.element.settings) (makes_sinks one.element.settings) alone one.is) in

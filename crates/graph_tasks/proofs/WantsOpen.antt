@@ -1,8 +1,8 @@
 -- What an element of a stream wants that has several sink pads, and which element has.
-use Rattle.std.proofs.Common.{◌≡◌, ◌⊎◌, ℕ, Bool, true, false, List, Option, None, Some, refl, sym, ap, ◌∙◌, inl, inr, arith}
+use Rattle.std.proofs.Common.{◌≡◌, ◌⊎◌, ℕ, Bool, true, false, List, Option, None, Some, refl, sym, ap, ◌∙◌, subst, inl, inr, arith}
 use Rattle.std.proofs.lemmas.Bool.{false≢true}
 use Rattle.flow_model.specs.Call.{Call}
-use Rattle.flow_model.specs.Rule.{passes}
+use Rattle.flow_model.specs.Rule.{Answers, passes}
 use Rattle.flow_model.specs.Moment.{Behavior}
 use Rattle.flow_model.specs.Over.{AllEnded}
 use Rattle.el_basic.specs.Passed.{has_ended}
@@ -13,7 +13,7 @@ use Rattle.task_elements.specs.declared.element.StreamElement.TheVariants.{Filte
 use Rattle.task_elements.specs.Stands.{StreamStands, first_unless, is_join, wanted_of}
 use Rattle.task_elements.proofs.FirstEos.{at_place}
 use Rattle.task_elements.proofs.Wanting.{has_pads, wants_open, wants_within}
-use Rattle.el_set.proofs.JoinsApart.{IsAlike, both_ended, join_differs, one_ended, single_alike}
+use Rattle.el_set.proofs.JoinsApart.{IsAlike, join_differs, single_alike}
 
 first_or_none : (over : Bool) → (first_unless over ≡ Some 0) ⊎ (first_unless over ≡ None)
 first_or_none true = inr refl
@@ -40,23 +40,18 @@ module _ {K : Type 0} (bytes : K → Option (List ℕ)) where
   first_wanted (Tee tee) other = first_or_none (tee_has_ended tee)
   first_wanted (Sink sink) other = inl refl
 
-  -- which it is can be told by its rule
+  -- which it is can be told by what it answers
   pub told_join : (element : StreamElement K) (behavior : Behavior) (took : List (List Call)) → StreamStands bytes element behavior took
-      → (IsAlike behavior.owes → ⊥) → is_join element ≡ true
+      → (IsAlike behavior.answers → ⊥) → is_join element ≡ true
   told_join (Join join) behavior took t differs = refl
-  told_join (Filter filter) behavior took t differs =
-      absurd (differs (single_alike t.respond behavior.owes (ap (λ (b : Behavior). b.owes) t.behavior_is)))
-  told_join (Queue queue) behavior took t differs =
-      absurd (differs (single_alike t.respond behavior.owes (ap (λ (b : Behavior). b.owes) t.behavior_is)))
-  told_join (Tee tee) behavior took t differs = absurd (differs (single_alike passes behavior.owes (ap (λ (b : Behavior). b.owes) t.behavior_is)))
-  told_join (Sink sink) behavior took t differs =
-      absurd (differs (ap (λ (b : Behavior). b.owes both_ended 0 0) t.behavior_is ∙ sym (ap (λ (b : Behavior). b.owes one_ended 0 0) t.behavior_is)))
+  told_join (Filter filter) behavior took t differs = absurd (differs (single_alike t.respond behavior.answers (ap (λ (b : Behavior). b.answers) t.behavior_is)))
+  told_join (Queue queue) behavior took t differs = absurd (differs (single_alike t.respond behavior.answers (ap (λ (b : Behavior). b.answers) t.behavior_is)))
+  told_join (Tee tee) behavior took t differs = absurd (differs (single_alike passes behavior.answers (ap (λ (b : Behavior). b.answers) t.behavior_is)))
+  told_join (Sink sink) behavior took t differs = absurd (differs (single_alike passes behavior.answers (ap (λ (b : Behavior). b.answers) t.behavior_is)))
 
   pub told_single : (element : StreamElement K) (behavior : Behavior) (took : List (List Call)) → StreamStands bytes element behavior took
-      → IsAlike behavior.owes → is_join element ≡ false
-  told_single (Join join) behavior took t alike =
-      absurd (join_differs join.join
-      (sym (ap (λ (b : Behavior). b.owes both_ended 0 0) t.behavior_is) ∙ (alike ∙ ap (λ (b : Behavior). b.owes one_ended 0 0) t.behavior_is)))
+      → IsAlike behavior.answers → is_join element ≡ false
+  told_single (Join join) behavior took t alike = absurd (join_differs join.join (subst (λ (answers : Answers). IsAlike answers) (ap (λ (b : Behavior). b.answers) t.behavior_is) alike))
   told_single (Filter filter) behavior took t alike = refl
   told_single (Queue queue) behavior took t alike = refl
   told_single (Tee tee) behavior took t alike = refl
